@@ -1,0 +1,102 @@
+-- Tables and task entries with some of their parts changed, and how a call ends.
+use Prim.Native.Nat.{ℕ}
+use mathlib.Core.List.{List, []}
+use mathlib.Core.Bool.{Bool}
+use lib.ListN.{getD, set}
+use Rattle.table.specs.declared.Primary.{Primary}
+use Rattle.table.specs.declared.Limits.{Limits}
+use Rattle.table.specs.declared.Marks.{Marks}
+use Rattle.table.specs.declared.Pending.{Pending}
+use Rattle.table.specs.declared.Pending.the-variants.{Nothing, Making}
+use Rattle.table.specs.declared.Storing.{Storing}
+use Rattle.table.specs.declared.Storing.the-variants.{Nowhere, Slot}
+use Rattle.table.specs.declared.Place.{Place}
+use Rattle.table.specs.declared.Place.the-variants.{Idle}
+use Rattle.table.specs.declared.Task.{Task}
+use Rattle.table.specs.declared.Life.{Life}
+use Rattle.table.specs.declared.Life.the-variants.{Living, Spent, Broken}
+use Rattle.table.specs.declared.Table.{Table}
+use Rattle.table.specs.declared.Refusal.{Refusal}
+use Rattle.table.specs.declared.Refusal.the-variants.{WrongLimit, NoTask, NoRegister, NilObject, NoSlot, OutOfTurn, Held, SlotInStore, NoRoom, Exhausted, Damaged}
+use Rattle.table.specs.declared.Answer.{Answer}
+use Rattle.table.specs.declared.Answer.the-variants.{No}
+use Rattle.table.specs.declared.Outcome.{Outcome}
+use Rattle.machine.specs.Numbers.{refusal}
+
+-- a task entry, a table and the marks, by their parts
+abbrev pub entry : List Primary → Pending → Storing → Place → Task
+entry regs pending storing place = record { regs = regs; pending = pending; storing = storing; place = place }
+
+abbrev pub table : Limits → Bool → Bool → Marks → Life → List Primary → List Task → Table
+table limits upper on marks life roots tasks =
+    record { limits = limits; upper = upper; on = on; marks = marks; life = life; roots = roots; tasks = tasks }
+
+abbrev pub marksAt : ℕ → ℕ → ℕ → ℕ → Marks
+marksAt a top j copies = record { a = a; top = top; j = j; copies = copies }
+
+abbrev pub noTask : Task
+noTask = entry [] Nothing Nowhere Idle
+
+abbrev pub taskAt : Table → ℕ → Task
+taskAt t i = getD (t .tasks) i noTask
+
+abbrev pub nil : Primary
+nil = record { 0 = 0 }
+
+abbrev pub register : Task → ℕ → Primary
+register e r = getD (e .regs) r nil
+
+-- one entry changed
+abbrev pub withTask : Table → ℕ → Task → Table
+withTask t i e = table (t .limits) (t .upper) (t .on) (t .marks) (t .life) (t .roots) (set (t .tasks) i e)
+
+abbrev pub withPlace : Table → ℕ → Place → Table
+withPlace t i place = withTask t i (entry (taskAt t i .regs) (taskAt t i .pending) (taskAt t i .storing) place)
+
+-- the task has moved to a place, with these marks and this pending object
+abbrev pub movedTable : Table → ℕ → Marks → Pending → Place → Table
+movedTable t i m pending place =
+    table (t .limits) (t .upper) (t .on) m (t .life) (t .roots)
+    (set (t .tasks) i (entry (taskAt t i .regs) pending (taskAt t i .storing) place))
+
+abbrev pub withRegister : Table → ℕ → ℕ → Primary → Table
+withRegister t i r p =
+    withTask t i (entry (set (taskAt t i .regs) r p) (taskAt t i .pending) (taskAt t i .storing) (taskAt t i .place))
+
+abbrev pub withRoot : Table → ℕ → Primary → Table
+withRoot t r p = table (t .limits) (t .upper) (t .on) (t .marks) (t .life) (set (t .roots) r p) (t .tasks)
+
+abbrev pub withLife : Table → Life → Table
+withLife t life = table (t .limits) (t .upper) (t .on) (t .marks) life (t .roots) (t .tasks)
+
+abbrev pub out : Table → Answer → Outcome
+out t x = record { table = t; answer = x }
+
+-- "10 and 11 leave the table as it came but marked dead", the others as it came
+abbrev pub marked : Table → Refusal → Table
+marked t WrongLimit = t
+marked t NoTask = t
+marked t NoRegister = t
+marked t NilObject = t
+marked t NoSlot = t
+marked t OutOfTurn = t
+marked t Held = t
+marked t SlotInStore = t
+marked t NoRoom = t
+marked t Exhausted = withLife t Spent
+marked t Damaged = withLife t Broken
+
+abbrev pub refused : Table → Refusal → Outcome
+refused t x = out (marked t x) (No x)
+
+-- a refusal by 01's number
+abbrev pub no : Table → ℕ → Outcome
+no t n = refused t (refusal n)
+
+-- how a call ends: table and answer, and every word of the buffer
+pub record Ends : Type 0 where
+  pub out : Outcome
+  pub words : List ℕ
+
+abbrev pub ends : Outcome → List ℕ → Ends
+ends o ws = record { out = o; words = ws }

@@ -4,6 +4,7 @@ pub mod Words
 pub mod Entries
 pub mod Gate
 pub mod Tasks
+pub mod Bounds
 pub mod Setup
 pub mod Complete
 pub mod Begin

@@ -85,10 +85,10 @@ copiedWord (Same w) = w
 copiedWord (Renamed r) = r .0
 
 -- the first word of the space in use, and the word after it
-abbrev pub bottomOf : Bool → ℕ → ℕ
+unfoldable pub bottomOf : Bool → ℕ → ℕ
 bottomOf upper h = pick upper (h + 2) 2
 
-abbrev pub endOf : Bool → ℕ → ℕ
+unfoldable pub endOf : Bool → ℕ → ℕ
 endOf upper h = bottomOf upper h + h
 
 -- room: a job in hand keeps its stack word

@@ -3,8 +3,8 @@ ghost use mathlib.Core.Path.{_≡_};
 ghost use Prim.Native.Nat.{ℕ, _+_, _*_, _≤_, _<_};
 ghost use Rattle.machine.specs.Basics.{When};
 ghost use Rattle.machine.specs.Words.{bottomOf, endOf};
-ghost use Rattle.machine.specs.Bounds.{Limited, Sized, Fits, Opened, Admitted};
-ghost use Rattle.machine.specs.Gate.{limitsOk, sizesOk, marksOk, gateOf, taskGateOf};
+ghost use Rattle.machine.specs.Bounds.{Limited, Sized, Fits, Opened, Admitted, Paired};
+ghost use Rattle.machine.specs.Gate.{limitsOk, sizesOk, marksOk, gateOf, taskGateOf, pairGateOf};
 use table::Gate;
 use table::Life;
 use table::Limits;
@@ -82,7 +82,7 @@ pub fn end_of(upper: bool, h: u32) -> u32
 // The table's numbers can be.
 pub fn marks_ok(l: Limits, upper: bool, m: Marks) -> bool
     requires { ⌜ Limited l ⌝ }
-    ensures { λ r. ⌜ (r ≡ marksOk l upper m) × When r (Fits m (endOf upper (l .h)) (2 + 2 * l .h)) ⌝ }
+    ensures { λ r. ⌜ (r ≡ marksOk l upper m) × When r ((bottomOf upper (l .h) ≤ m .a) × Fits m (endOf upper (l .h)) (2 + 2 * l .h)) ⌝ }
 {
     let p = l.p;
     let h = l.h;
@@ -148,6 +148,25 @@ pub fn task_gate(l: Limits, life: Life, upper: bool, m: Marks, n: usize, task: u
                 return Gate::Open;
             }
             Gate::Shut(Refusal::NoTask)
+        }
+        Gate::Shut(x) => Gate::Shut(x),
+    }
+}
+
+// The same for a call with two registers or roots.
+pub fn pair_gate(l: Limits, life: Life, upper: bool, m: Marks, n: usize, task: u32, a: u32, b: u32) -> Gate
+    ensures { λ r. ⌜ (r ≡ pairGateOf l life upper m n task a b) × Paired r l upper m n task a b ⌝ }
+{
+    let g = task_gate(l, life, upper, m, n, task);
+    match g {
+        Gate::Open => {
+            if 7 < a {
+                return Gate::Shut(Refusal::NoRegister);
+            }
+            if 7 < b {
+                return Gate::Shut(Refusal::NoRegister);
+            }
+            Gate::Open
         }
         Gate::Shut(x) => Gate::Shut(x),
     }

@@ -12,7 +12,7 @@ use Rattle.table.specs.declared.Look.{Look}
 use Rattle.table.specs.declared.Look.the-variants.{White, Claimed, Forwarded, Lost}
 use Rattle.table.specs.declared.Copying.{Copying}
 use Rattle.table.specs.declared.Copying.the-variants.{Count, Locked, Neither}
-use Rattle.machine.specs.Words.{endOf}
+use Rattle.machine.specs.Words.{bottomOf, endOf}
 
 pub record Limited (l : Limits) : Type 0 where
   pub p-low : 1 ≤ l .p
@@ -38,6 +38,7 @@ pub record Fits (m : Marks) (end n : ℕ) : Type 0 where
 
 pub record Sound (l : Limits) (upper : Bool) (m : Marks) (n : ℕ) : Type 0 where
   pub sized : Sized l n
+  pub based : bottomOf upper (l .h) ≤ m .a
   pub fits : Fits m (endOf upper (l .h)) n
 
 abbrev pub Opened : Gate → Limits → Bool → Marks → ℕ → Type 0
@@ -47,6 +48,10 @@ Opened (Shut x) l upper m n = Unit {0}
 abbrev pub Admitted : Gate → Limits → Bool → Marks → ℕ → ℕ → Type 0
 Admitted Open l upper m n task = Sound l upper m n × (task < l .p)
 Admitted (Shut x) l upper m n task = Unit {0}
+
+abbrev pub Paired : Gate → Limits → Bool → Marks → ℕ → ℕ → ℕ → ℕ → Type 0
+Paired Open l upper m n task a b = Sound l upper m n × (task < l .p) × (a < 8) × (b < 8)
+Paired (Shut x) l upper m n task a b = Unit {0}
 
 -- an object that is whole lies in the n words, with its descriptor and header before it
 abbrev pub Stands : Object → ℕ → ℕ → ℕ → Type 0

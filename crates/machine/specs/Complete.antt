@@ -14,19 +14,15 @@ use Rattle.table.specs.declared.Outcome.{Outcome}
 use Rattle.machine.specs.Basics.{pick}
 use Rattle.machine.specs.Words.{primary, objectOf}
 use Rattle.machine.specs.Entries.{taskAt, nil, register, withRegister, withRoot, out, no}
-use Rattle.machine.specs.Gate.{through, callGate}
+use Rattle.machine.specs.Gate.{through, pairGate}
 use Rattle.machine.specs.Tasks.{holdingOf, idleOf}
 
--- behind the gate: register or root above 7 (3), then the task not idle (6), then the rest
 abbrev pub idleAt : Table → ℕ → Bool
 idleAt t i = idleOf (holdingOf (taskAt t i .place))
 
+-- the gate, with two registers or roots; then the task not idle (6); then the rest
 abbrev pub withTwo : Table → List ℕ → ℕ → ℕ → ℕ → Outcome → Outcome
-withTwo t ws task a b o =
-    through (callGate t ws task) t
-    (pick (ltb 7 a) (no t 3)
-    (pick (ltb 7 b) (no t 3)
-    (pick (idleAt t task) o (no t 6))))
+withTwo t ws task a b o = through (pairGate t ws task a b) t (pick (idleAt t task) o (no t 6))
 
 -- Move: register `to` gets what register `from` holds
 unfoldable pub moveOf : Table → List ℕ → ℕ → ℕ → ℕ → Outcome
@@ -35,10 +31,7 @@ moveOf t ws task to from =
 
 -- Clear
 unfoldable pub clearOf : Table → List ℕ → ℕ → ℕ → Outcome
-clearOf t ws task r =
-    through (callGate t ws task) t
-    (pick (ltb 7 r) (no t 3)
-    (pick (idleAt t task) (out (withRegister t task r nil) Done) (no t 6)))
+clearOf t ws task r = withTwo t ws task r r (out (withRegister t task r nil) Done)
 
 -- to a shared root, and from it
 unfoldable pub putRootOf : Table → List ℕ → ℕ → ℕ → ℕ → Outcome

@@ -53,13 +53,20 @@ unfoldable pub gateOf : Limits → Life → Bool → Marks → ℕ → Gate
 gateOf l life upper m n =
     pick (sizesOk l n) (livingOr life (pick (marksOk l upper m) Open (Shut (refusal 11)))) (Shut (refusal 1))
 
-abbrev pub thenTask : Gate → ℕ → ℕ → Gate
-thenTask Open p task = pick (ltb task p) Open (Shut (refusal 2))
-thenTask (Shut x) p task = Shut x
+-- a gate, and behind it another
+abbrev pub behind : Gate → Gate → Gate
+behind Open g = g
+behind (Shut x) g = Shut x
 
--- the gate of a table for a call of a task
+-- no such task
 unfoldable pub taskGateOf : Limits → Life → Bool → Marks → ℕ → ℕ → Gate
-taskGateOf l life upper m n task = thenTask (gateOf l life upper m n) (l .p) task
+taskGateOf l life upper m n task = behind (gateOf l life upper m n) (pick (ltb task (l .p)) Open (Shut (refusal 2)))
+
+-- a register or root above 7
+unfoldable pub pairGateOf : Limits → Life → Bool → Marks → ℕ → ℕ → ℕ → ℕ → Gate
+pairGateOf l life upper m n task a b =
+    behind (taskGateOf l life upper m n task)
+    (pick (ltb 7 a) (Shut (refusal 3)) (pick (ltb 7 b) (Shut (refusal 3)) Open))
 
 -- what the tests behind the gate give, or the gate's refusal
 abbrev pub through : Gate → Table → Outcome → Outcome
@@ -71,3 +78,6 @@ tableGate t ws = gateOf (t .limits) (t .life) (t .upper) (t .marks) (length ws)
 
 abbrev pub callGate : Table → List ℕ → ℕ → Gate
 callGate t ws task = taskGateOf (t .limits) (t .life) (t .upper) (t .marks) (length ws) task
+
+abbrev pub pairGate : Table → List ℕ → ℕ → ℕ → ℕ → Gate
+pairGate t ws task a b = pairGateOf (t .limits) (t .life) (t .upper) (t .marks) (length ws) task a b

@@ -19,3 +19,9 @@ pub mod New
 pub mod Step
 pub mod Call
 pub mod Calls
+pub mod Sum
+pub mod Opened
+pub mod Examples
+pub mod SelfPointing
+pub mod Faults
+pub mod Outcomes

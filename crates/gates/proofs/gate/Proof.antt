@@ -31,7 +31,7 @@ returns c =
       c .before .before .enum-told .given .1,
       c .before .before .before .before .if1 .taken,
       ← (c .before .before .before .before .before .sizes-ok .ensures .0)),
-      let z = rw (c .before .before .before .before .if1 .taken) at (c .before .before .before .before .before .sizes-ok .ensures .1) in record { sized = z; fits = rw (z .size) (rw (c .if2 .taken) at (c .before .marks-ok .ensures .1)) },
+      let z = rw (c .before .before .before .before .if1 .taken) at (c .before .before .before .before .before .sizes-ok .ensures .1) in let f = rw (c .if2 .taken) at (c .before .marks-ok .ensures .1) in record { sized = z; based = f .0; fits = rw (z .size) (f .1) },
     )
 
 -- src/lib.rt:127:17

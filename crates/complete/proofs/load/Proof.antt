@@ -1,0 +1,83 @@
+use borrow.Author.Needs.{needs}
+use Rattle.complete.proofs.load.Statement.{statement}
+use Rattle.complete.proofs.load.Tie as tie
+use Rattle.complete.proofs.load.Reads as reads
+use Rattle.complete.proofs.load.Lts as lts
+use Rattle.complete.proofs.load_from.Reads as load-from-reads
+use Rattle.entries.proofs.refused.Reads as refused-reads
+use Rattle.gates.proofs.pair_gate.Reads as pair-gate-reads
+use Rattle.tasks.proofs.idle.Reads as idle-reads
+
+-- src/lib.rt:191:9
+pair-gate-requires : tie.Need-pair-gate-requires
+pair-gate-requires c κs = search needs
+
+-- src/lib.rt:192:23
+enum-known-g : tie.Need-enum-known-g
+enum-known-g c = search needs
+
+-- src/lib.rt:193:9
+refused-requires : tie.Need-refused-requires
+refused-requires c κs = search needs
+
+-- src/lib.rt:193:9
+returns : tie.Need-returns
+returns c = ?
+
+enum-told : tie.Need-enum-told
+enum-told c = search needs
+
+-- src/lib.rt:196:13
+mul-e : tie.Need-mul-e
+mul-e c = search needs
+
+-- src/lib.rt:196:13
+element-copy-out-e : tie.Need-element-copy-out-e
+element-copy-out-e c = ?
+
+-- src/lib.rt:198:9
+idle-requires : tie.Need-idle-requires
+idle-requires c κs = search needs
+
+-- src/lib.rt:200:17
+mul-p : tie.Need-mul-p
+mul-p c = search needs
+
+-- src/lib.rt:200:17
+element-copy-out-p : tie.Need-element-copy-out-p
+element-copy-out-p c = ?
+
+-- src/lib.rt:201:9
+load-from-requires : tie.Need-load-from-requires
+load-from-requires c κs = ?
+
+-- src/lib.rt:201:9
+returns-2 : tie.Need-returns-2
+returns-2 c = ?
+
+-- src/lib.rt:203:5
+refused-requires-2 : tie.Need-refused-requires-2
+refused-requires-2 c κs = search needs
+
+-- src/lib.rt:185:1
+returns-3 : tie.Need-returns-3
+returns-3 c = ?
+
+pub load-spec : {M : Type 1} → statement M
+load-spec =
+    tie.close
+    (tie.spec
+    pair-gate-requires
+    enum-known-g
+    refused-requires
+    returns
+    enum-told
+    mul-e
+    element-copy-out-e
+    idle-requires
+    mul-p
+    element-copy-out-p
+    load-from-requires
+    returns-2
+    refused-requires-2
+    returns-3)

@@ -1,0 +1,93 @@
+use borrow.Author.Needs.{needs}
+use Rattle.complete.proofs.load_from.Statement.{statement}
+use Rattle.complete.proofs.load_from.Tie as tie
+use Rattle.complete.proofs.load_from.Reads as reads
+use Rattle.complete.proofs.load_from.Lts as lts
+use Rattle.entries.proofs.refused.Reads as refused-reads
+use Rattle.entries.proofs.with_register.Reads as with-register-reads
+use Rattle.objects.proofs.object_at.Reads as object-at-reads
+
+-- src/lib.rt:159:9
+refused-requires : tie.Need-refused-requires
+refused-requires c κs = search needs
+
+-- src/lib.rt:159:9
+returns : tie.Need-returns
+returns c = ?
+
+-- src/lib.rt:163:9
+object-at-requires : tie.Need-object-at-requires
+object-at-requires c κs = search needs
+
+-- src/lib.rt:164:23
+enum-known-o : tie.Need-enum-known-o
+enum-known-o c = search needs
+
+-- src/lib.rt:165:36
+enum-told : tie.Need-enum-told
+enum-told c = search needs
+
+-- src/lib.rt:165:9
+refused-requires-2 : tie.Need-refused-requires-2
+refused-requires-2 c κs = search needs
+
+-- src/lib.rt:165:9
+returns-2 : tie.Need-returns-2
+returns-2 c = ?
+
+-- src/lib.rt:168:9
+refused-requires-3 : tie.Need-refused-requires-3
+refused-requires-3 c κs = search needs
+
+-- src/lib.rt:168:9
+returns-3 : tie.Need-returns-3
+returns-3 c = ?
+
+-- src/lib.rt:170:20
+cast-v : tie.Need-cast-v
+cast-v c = search needs
+
+-- src/lib.rt:170:19
+add-v : tie.Need-add-v
+add-v c = search needs
+
+-- src/lib.rt:170:13
+mul-v : tie.Need-mul-v
+mul-v c = search needs
+
+-- src/lib.rt:170:13
+shared-slice-read-v : tie.Need-shared-slice-read-v
+shared-slice-read-v c = ?
+
+-- src/lib.rt:172:13
+with-register-requires : tie.Need-with-register-requires
+with-register-requires c κs = search needs
+
+-- src/lib.rt:173:9
+returns-4 : tie.Need-returns-4
+returns-4 c = ?
+
+-- src/lib.rt:153:1
+returns-5 : tie.Need-returns-5
+returns-5 c = ?
+
+pub load-from-spec : {M : Type 1} → statement M
+load-from-spec =
+    tie.close
+    (tie.spec
+    refused-requires
+    returns
+    object-at-requires
+    enum-known-o
+    enum-told
+    refused-requires-2
+    returns-2
+    refused-requires-3
+    returns-3
+    cast-v
+    add-v
+    mul-v
+    shared-slice-read-v
+    with-register-requires
+    returns-4
+    returns-5)

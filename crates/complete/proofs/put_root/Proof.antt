@@ -1,0 +1,83 @@
+use borrow.Author.Needs.{needs}
+use Rattle.complete.proofs.put_root.Statement.{statement}
+use Rattle.complete.proofs.put_root.Tie as tie
+use Rattle.complete.proofs.put_root.Reads as reads
+use Rattle.complete.proofs.put_root.Lts as lts
+use Rattle.entries.proofs.refused.Reads as refused-reads
+use Rattle.entries.proofs.with_root.Reads as with-root-reads
+use Rattle.gates.proofs.pair_gate.Reads as pair-gate-reads
+use Rattle.tasks.proofs.idle.Reads as idle-reads
+
+-- src/lib.rt:75:9
+pair-gate-requires : tie.Need-pair-gate-requires
+pair-gate-requires c κs = search needs
+
+-- src/lib.rt:76:23
+enum-known-g : tie.Need-enum-known-g
+enum-known-g c = search needs
+
+-- src/lib.rt:77:9
+refused-requires : tie.Need-refused-requires
+refused-requires c κs = search needs
+
+-- src/lib.rt:77:9
+returns : tie.Need-returns
+returns c = ?
+
+enum-told : tie.Need-enum-told
+enum-told c = search needs
+
+-- src/lib.rt:80:13
+mul-e : tie.Need-mul-e
+mul-e c = search needs
+
+-- src/lib.rt:80:13
+element-copy-out-e : tie.Need-element-copy-out-e
+element-copy-out-e c = ?
+
+-- src/lib.rt:82:9
+idle-requires : tie.Need-idle-requires
+idle-requires c κs = search needs
+
+-- src/lib.rt:84:17
+mul-p : tie.Need-mul-p
+mul-p c = search needs
+
+-- src/lib.rt:84:17
+element-copy-out-p : tie.Need-element-copy-out-p
+element-copy-out-p c = ?
+
+-- src/lib.rt:85:13
+with-root-requires : tie.Need-with-root-requires
+with-root-requires c κs = ?
+
+-- src/lib.rt:86:9
+returns-2 : tie.Need-returns-2
+returns-2 c = ?
+
+-- src/lib.rt:91:5
+refused-requires-2 : tie.Need-refused-requires-2
+refused-requires-2 c κs = search needs
+
+-- src/lib.rt:69:1
+returns-3 : tie.Need-returns-3
+returns-3 c = ?
+
+pub put-root-spec : {M : Type 1} → statement M
+put-root-spec =
+    tie.close
+    (tie.spec
+    pair-gate-requires
+    enum-known-g
+    refused-requires
+    returns
+    enum-told
+    mul-e
+    element-copy-out-e
+    idle-requires
+    mul-p
+    element-copy-out-p
+    with-root-requires
+    returns-2
+    refused-requires-2
+    returns-3)

@@ -1,0 +1,92 @@
+use borrow.Author.Needs.{needs}
+use Rattle.complete.proofs.same.Statement.{statement}
+use Rattle.complete.proofs.same.Tie as tie
+use Rattle.complete.proofs.same.Reads as reads
+use Rattle.complete.proofs.same.Lts as lts
+use Rattle.entries.proofs.refused.Reads as refused-reads
+use Rattle.gates.proofs.pair_gate.Reads as pair-gate-reads
+use Rattle.tasks.proofs.idle.Reads as idle-reads
+
+-- src/lib.rt:127:9
+pair-gate-requires : tie.Need-pair-gate-requires
+pair-gate-requires c κs = search needs
+
+-- src/lib.rt:128:23
+enum-known-g : tie.Need-enum-known-g
+enum-known-g c = search needs
+
+-- src/lib.rt:129:9
+refused-requires : tie.Need-refused-requires
+refused-requires c κs = search needs
+
+-- src/lib.rt:129:9
+returns : tie.Need-returns
+returns c = ?
+
+enum-told : tie.Need-enum-told
+enum-told c = search needs
+
+-- src/lib.rt:132:13
+mul-e : tie.Need-mul-e
+mul-e c = search needs
+
+-- src/lib.rt:132:13
+element-copy-out-e : tie.Need-element-copy-out-e
+element-copy-out-e c = ?
+
+-- src/lib.rt:134:9
+idle-requires : tie.Need-idle-requires
+idle-requires c κs = search needs
+
+-- src/lib.rt:136:17
+mul-p : tie.Need-mul-p
+mul-p c = search needs
+
+-- src/lib.rt:136:17
+element-copy-out-p : tie.Need-element-copy-out-p
+element-copy-out-p c = ?
+
+-- src/lib.rt:137:17
+mul-q : tie.Need-mul-q
+mul-q c = search needs
+
+-- src/lib.rt:137:17
+element-copy-out-q : tie.Need-element-copy-out-q
+element-copy-out-q c = ?
+
+-- src/lib.rt:139:13
+returns-2 : tie.Need-returns-2
+returns-2 c = ?
+
+-- src/lib.rt:144:9
+returns-3 : tie.Need-returns-3
+returns-3 c = ?
+
+-- src/lib.rt:149:5
+refused-requires-2 : tie.Need-refused-requires-2
+refused-requires-2 c κs = search needs
+
+-- src/lib.rt:121:1
+returns-4 : tie.Need-returns-4
+returns-4 c = ?
+
+pub same-spec : {M : Type 1} → statement M
+same-spec =
+    tie.close
+    (tie.spec
+    pair-gate-requires
+    enum-known-g
+    refused-requires
+    returns
+    enum-told
+    mul-e
+    element-copy-out-e
+    idle-requires
+    mul-p
+    element-copy-out-p
+    mul-q
+    element-copy-out-q
+    returns-2
+    returns-3
+    refused-requires-2
+    returns-4)

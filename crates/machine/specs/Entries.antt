@@ -47,23 +47,23 @@ abbrev pub register : Task → ℕ → Primary
 register e r = getD (e .regs) r nil
 
 -- one entry changed
-abbrev pub withTask : Table → ℕ → Task → Table
+unfoldable pub withTask : Table → ℕ → Task → Table
 withTask t i e = table (t .limits) (t .upper) (t .on) (t .marks) (t .life) (t .roots) (set (t .tasks) i e)
 
-abbrev pub withPlace : Table → ℕ → Place → Table
+unfoldable pub withPlace : Table → ℕ → Place → Table
 withPlace t i place = withTask t i (entry (taskAt t i .regs) (taskAt t i .pending) (taskAt t i .storing) place)
 
 -- the task has moved to a place, with these marks and this pending object
-abbrev pub movedTable : Table → ℕ → Marks → Pending → Place → Table
+unfoldable pub movedTable : Table → ℕ → Marks → Pending → Place → Table
 movedTable t i m pending place =
     table (t .limits) (t .upper) (t .on) m (t .life) (t .roots)
     (set (t .tasks) i (entry (taskAt t i .regs) pending (taskAt t i .storing) place))
 
-abbrev pub withRegister : Table → ℕ → ℕ → Primary → Table
+unfoldable pub withRegister : Table → ℕ → ℕ → Primary → Table
 withRegister t i r p =
     withTask t i (entry (set (taskAt t i .regs) r p) (taskAt t i .pending) (taskAt t i .storing) (taskAt t i .place))
 
-abbrev pub withRoot : Table → ℕ → Primary → Table
+unfoldable pub withRoot : Table → ℕ → Primary → Table
 withRoot t r p = table (t .limits) (t .upper) (t .on) (t .marks) (t .life) (set (t .roots) r p) (t .tasks)
 
 abbrev pub withLife : Table → Life → Table

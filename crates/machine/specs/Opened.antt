@@ -5,7 +5,7 @@ use lib.ListN.{replicate}
 use Rattle.machine.specs.Basics.{allOf, firstOf}
 use Rattle.machine.specs.Numbers.{Word, wordOf, valuesOf}
 use Rattle.machine.specs.Words.{objectOf, lookOf, copyingOf, bottomOf, endOf, roomFor}
-use Rattle.machine.specs.Entries.{taskAt, register, Ends}
+use Rattle.machine.specs.Entries.{taskAt, register, withTask, withPlace, movedTable, withRegister, withRoot, Ends}
 use Rattle.machine.specs.Gate.{limitsOk, sizesOk, marksOk, gateOf, taskGateOf, pairGateOf}
 use Rattle.machine.specs.Tasks.{holdingOf, soughtOf, lowestOf, seekOf, slotTaken, greyOf, closingOf, heldOf}
 use Rattle.machine.specs.Setup.{limits, unset, setupOf, reportOf}
@@ -42,6 +42,7 @@ steps is = map Call.Step is
 unfoldable pub opened : Unit {0}
 unfolding
     allOf firstOf objectOf lookOf copyingOf bottomOf endOf roomFor
+    withTask withPlace movedTable withRegister withRoot
     limitsOk sizesOk marksOk gateOf taskGateOf pairGateOf
     holdingOf soughtOf lowestOf seekOf slotTaken greyOf closingOf heldOf setupOf reportOf
     moveOf clearOf putRootOf getRootOf sameOf loadFrom loadOf

@@ -21,7 +21,7 @@ use Rattle.table.specs.declared.Answer.the-variants.{Done, Moved, Wait}
 use Rattle.table.specs.declared.Outcome.{Outcome}
 use Rattle.machine.specs.Basics.{pick}
 use Rattle.machine.specs.Words.{endOf}
-use Rattle.machine.specs.Entries.{taskAt, movedTable, out, no, refused, ends} 
+use Rattle.machine.specs.Entries.{taskAt, movedTable, out, no, refused, ends}
 use Rattle.machine.specs.Entries.{Ends as Ended}
 use Rattle.machine.specs.Gate.{callGate}
 use Rattle.machine.specs.Tasks.{seekOf, greyOf}

@@ -1,3 +1,6 @@
+use Rattle.machine.proofs.Rules.{tests}
+use native.Mathlib.Omega.{arith}
+use Rattle.machine.specs.Complete.{loadFrom}
 use borrow.Author.Needs.{needs}
 use Rattle.complete.proofs.load_from.Statement.{statement}
 use Rattle.complete.proofs.load_from.Tie as tie
@@ -13,7 +16,11 @@ refused-requires c κs = search needs
 
 -- src/lib.rt:159:9
 returns : tie.Need-returns
-returns c = ?
+unfolding loadFrom
+returns c =
+    simp (tests,
+      c .refused .ensures,
+      c .before .if1 .taken)
 
 -- src/lib.rt:163:9
 object-at-requires : tie.Need-object-at-requires
@@ -33,7 +40,13 @@ refused-requires-2 c κs = search needs
 
 -- src/lib.rt:165:9
 returns-2 : tie.Need-returns-2
-returns-2 c = ?
+unfolding loadFrom
+returns-2 c =
+    simp (tests,
+      c .refused2 .ensures,
+      c .before .enum-told .given .1,
+      ← (c .before .before .before .object-at .ensures .0),
+      c .before .before .before .before .before .if1 .left)
 
 -- src/lib.rt:168:9
 refused-requires-3 : tie.Need-refused-requires-3
@@ -41,7 +54,14 @@ refused-requires-3 c κs = search needs
 
 -- src/lib.rt:168:9
 returns-3 : tie.Need-returns-3
-returns-3 c = ?
+unfolding loadFrom
+returns-3 c =
+    simp (tests,
+      c .refused3 .ensures,
+      c .before .if2 .taken,
+      c .before .before .before .o .given .1,
+      ← (c .before .before .before .before .before .object-at .ensures .0),
+      c .before .before .before .before .before .before .before .if1 .left)
 
 -- src/lib.rt:170:20
 cast-v : tie.Need-cast-v
@@ -57,7 +77,7 @@ mul-v c = search needs
 
 -- src/lib.rt:170:13
 shared-slice-read-v : tie.Need-shared-slice-read-v
-shared-slice-read-v c = ?
+shared-slice-read-v c = let f = rw (c .before .before .before .o .given .1) at (c .before .before .before .before .before .object-at .ensures .1) in omega (arith, f .1)
 
 -- src/lib.rt:172:13
 with-register-requires : tie.Need-with-register-requires
@@ -65,11 +85,26 @@ with-register-requires c κs = search needs
 
 -- src/lib.rt:173:9
 returns-4 : tie.Need-returns-4
-returns-4 c = ?
+unfolding loadFrom
+returns-4 c =
+    simp (tests,
+      c .with-register .ensures,
+      c .before .if3 .taken,
+      c .before .before .before .if2 .left,
+      c .before .before .before .before .before .o .given .1,
+      ← (c .before .before .before .before .before .before .before .object-at .ensures .0),
+      c .before .before .before .before .before .before .before .before .before .if1 .left)
 
 -- src/lib.rt:153:1
 returns-5 : tie.Need-returns-5
-returns-5 c = ?
+unfolding loadFrom
+returns-5 c =
+    simp (tests,
+      c .if3 .left,
+      c .before .before .if2 .left,
+      c .before .before .before .before .o .given .1,
+      ← (c .before .before .before .before .before .before .object-at .ensures .0),
+      c .before .before .before .before .before .before .before .before .if1 .left)
 
 pub load-from-spec : {M : Type 1} → statement M
 load-from-spec =

@@ -1,3 +1,6 @@
+use Rattle.machine.proofs.Rules.{tests}
+use native.Mathlib.Omega.{arith}
+use Rattle.machine.specs.Complete.{moveOf}
 use borrow.Author.Needs.{needs}
 use Rattle.complete.proofs.move_register.Statement.{statement}
 use Rattle.complete.proofs.move_register.Tie as tie
@@ -22,7 +25,11 @@ refused-requires c κs = search needs
 
 -- src/lib.rt:26:9
 returns : tie.Need-returns
-returns c = ?
+unfolding moveOf
+returns c =
+    simp (c .refused .ensures,
+      c .before .before .g .given .1,
+      ← (c .before .before .before .before .pair-gate .ensures .0))
 
 enum-told : tie.Need-enum-told
 enum-told c = search needs
@@ -33,7 +40,7 @@ mul-e c = search needs
 
 -- src/lib.rt:29:13
 element-copy-out-e : tie.Need-element-copy-out-e
-element-copy-out-e c = ?
+element-copy-out-e c = let f = rw (c .enum-told .given .1) at (c .before .before .pair-gate .ensures .1) in omega (arith, f .1, f .0 .sized .limited .p-high, f .2, f .3)
 
 -- src/lib.rt:31:9
 idle-requires : tie.Need-idle-requires
@@ -45,15 +52,22 @@ mul-p c = search needs
 
 -- src/lib.rt:33:17
 element-copy-out-p : tie.Need-element-copy-out-p
-element-copy-out-p c = ?
+element-copy-out-p c = let f = rw (c .before .before .before .enum-told .given .1) at (c .before .before .before .before .before .pair-gate .ensures .1) in omega (arith, f .1, f .0 .sized .limited .p-high, f .2, f .3)
 
 -- src/lib.rt:34:13
 with-register-requires : tie.Need-with-register-requires
-with-register-requires c κs = ?
+with-register-requires c κs = let f = rw (c .before .before .before .before .enum-told .given .1) at (c .before .before .before .before .before .before .pair-gate .ensures .1) in (omega (arith, f .1, f .0 .sized .limited .p-high, f .2, f .3), omega (arith, f .1, f .0 .sized .limited .p-high, f .2, f .3))
 
 -- src/lib.rt:35:9
 returns-2 : tie.Need-returns-2
-returns-2 c = ?
+unfolding moveOf
+returns-2 c =
+    simp (tests,
+      c .with-register .ensures,
+      c .before .before .if1 .taken,
+      ← (c .before .before .before .idle .ensures),
+      c .before .before .before .before .before .enum-told .given .1,
+      ← (c .before .before .before .before .before .before .before .pair-gate .ensures .0))
 
 -- src/lib.rt:40:5
 refused-requires-2 : tie.Need-refused-requires-2
@@ -61,7 +75,14 @@ refused-requires-2 c κs = search needs
 
 -- src/lib.rt:18:1
 returns-3 : tie.Need-returns-3
-returns-3 c = ?
+unfolding moveOf
+returns-3 c =
+    simp (tests,
+      c .refused2 .ensures,
+      c .before .if1 .left,
+      ← (c .before .before .idle .ensures),
+      c .before .before .before .before .enum-told .given .1,
+      ← (c .before .before .before .before .before .before .pair-gate .ensures .0))
 
 pub move-register-spec : {M : Type 1} → statement M
 move-register-spec =

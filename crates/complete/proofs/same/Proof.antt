@@ -1,3 +1,7 @@
+use Rattle.machine.proofs.Rules.{tests}
+use native.Mathlib.Omega.{arith}
+use Rattle.machine.specs.Complete.{sameOf}
+use borrow.Author.Tests.{eq-eqb}
 use borrow.Author.Needs.{needs}
 use Rattle.complete.proofs.same.Statement.{statement}
 use Rattle.complete.proofs.same.Tie as tie
@@ -21,7 +25,11 @@ refused-requires c κs = search needs
 
 -- src/lib.rt:129:9
 returns : tie.Need-returns
-returns c = ?
+unfolding sameOf
+returns c =
+    simp (c .refused .ensures,
+      c .before .before .g .given .1,
+      ← (c .before .before .before .before .pair-gate .ensures .0))
 
 enum-told : tie.Need-enum-told
 enum-told c = search needs
@@ -32,7 +40,7 @@ mul-e c = search needs
 
 -- src/lib.rt:132:13
 element-copy-out-e : tie.Need-element-copy-out-e
-element-copy-out-e c = ?
+element-copy-out-e c = let f = rw (c .enum-told .given .1) at (c .before .before .pair-gate .ensures .1) in omega (arith, f .1, f .0 .sized .limited .p-high, f .2, f .3)
 
 -- src/lib.rt:134:9
 idle-requires : tie.Need-idle-requires
@@ -44,7 +52,7 @@ mul-p c = search needs
 
 -- src/lib.rt:136:17
 element-copy-out-p : tie.Need-element-copy-out-p
-element-copy-out-p c = ?
+element-copy-out-p c = let f = rw (c .before .before .before .enum-told .given .1) at (c .before .before .before .before .before .pair-gate .ensures .1) in omega (arith, f .1, f .0 .sized .limited .p-high, f .2, f .3)
 
 -- src/lib.rt:137:17
 mul-q : tie.Need-mul-q
@@ -52,15 +60,23 @@ mul-q c = search needs
 
 -- src/lib.rt:137:17
 element-copy-out-q : tie.Need-element-copy-out-q
-element-copy-out-q c = ?
+element-copy-out-q c = let f = rw (c .before .before .before .before .enum-told .given .1) at (c .before .before .before .before .before .before .pair-gate .ensures .1) in omega (arith, f .1, f .0 .sized .limited .p-high, f .2, f .3)
 
 -- src/lib.rt:139:13
 returns-2 : tie.Need-returns-2
-returns-2 c = ?
+unfolding sameOf
+returns-2 c = rw (← (c .before .before .before .before .before .before .before .before .before .before .pair-gate .ensures .0), c .before .before .before .before .before .before .before .before .enum-told .given .1, ← (c .before .before .before .before .before .before .idle .ensures), c .before .before .before .before .before .if1 .taken, eq-eqb _ _ (c .if2 .taken))
 
 -- src/lib.rt:144:9
 returns-3 : tie.Need-returns-3
-returns-3 c = ?
+unfolding sameOf
+returns-3 c =
+    simp (tests,
+      c .if2 .left,
+      c .before .before .before .before .before .if1 .taken,
+      ← (c .before .before .before .before .before .before .idle .ensures),
+      c .before .before .before .before .before .before .before .before .enum-told .given .1,
+      ← (c .before .before .before .before .before .before .before .before .before .before .pair-gate .ensures .0))
 
 -- src/lib.rt:149:5
 refused-requires-2 : tie.Need-refused-requires-2
@@ -68,7 +84,14 @@ refused-requires-2 c κs = search needs
 
 -- src/lib.rt:121:1
 returns-4 : tie.Need-returns-4
-returns-4 c = ?
+unfolding sameOf
+returns-4 c =
+    simp (tests,
+      c .refused2 .ensures,
+      c .before .if1 .left,
+      ← (c .before .before .idle .ensures),
+      c .before .before .before .before .enum-told .given .1,
+      ← (c .before .before .before .before .before .before .pair-gate .ensures .0))
 
 pub same-spec : {M : Type 1} → statement M
 same-spec =

@@ -1,9 +1,10 @@
-// What every call tests first: limits and buffer (1), the dead number, the table's numbers (11), the task (2); and refusals.
+// What every call tests first: limits and buffer (1), the dead number, the table's numbers (11), the task (2), registers (3).
 ghost use mathlib.Core.Path.{_≡_};
 ghost use Prim.Native.Nat.{ℕ, _+_, _*_, _≤_, _<_};
 ghost use Rattle.machine.specs.Basics.{When};
 ghost use Rattle.machine.specs.Words.{bottomOf, endOf};
 ghost use Rattle.machine.specs.Bounds.{Limited, Sized, Fits, Opened, Admitted, Paired};
+ghost use Rattle.machine.specs.Begin.{newOk};
 ghost use Rattle.machine.specs.Gate.{limitsOk, sizesOk, marksOk, gateOf, taskGateOf, pairGateOf};
 use table::Gate;
 use table::Life;
@@ -170,4 +171,20 @@ pub fn pair_gate(l: Limits, life: Life, upper: bool, m: Marks, n: usize, task: u
         }
         Gate::Shut(x) => Gate::Shut(x),
     }
+}
+
+// What a New may ask for: a register up to 7, L up to S, m up to L.
+pub fn new_ok(s: u32, r: u32, len: u32, m: u32) -> bool
+    ensures { λ b. ⌜ (b ≡ newOk s r len m) × When b ((r < 8) × (len ≤ s) × (m ≤ len)) ⌝ }
+{
+    if 7 < r {
+        return false;
+    }
+    if s < len {
+        return false;
+    }
+    if len < m {
+        return false;
+    }
+    true
 }

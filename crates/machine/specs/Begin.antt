@@ -22,7 +22,7 @@ use Rattle.table.specs.declared.Outcome.{Outcome}
 use Rattle.machine.specs.Basics.{pick}
 use Rattle.machine.specs.Words.{primary, objectOf, endOf}
 use Rattle.machine.specs.Entries.{entry, taskAt, register, withTask, withPlace, out, no}
-use Rattle.machine.specs.Gate.{through, callGate}
+use Rattle.machine.specs.Gate.{through, callGate, pairGate}
 use Rattle.machine.specs.Tasks.{heldOf, slotTaken}
 use Rattle.machine.specs.Complete.{idleAt}
 
@@ -115,7 +115,5 @@ beginStoreOf t ws task o slot w =
 
 unfoldable pub beginStorePointerOf : Table → List ℕ → ℕ → ℕ → ℕ → ℕ → Outcome
 beginStorePointerOf t ws task o slot r =
-    through (callGate t ws task) t
-    (pick (ltb 7 o) (no t 3)
-    (pick (ltb 7 r) (no t 3)
-    (storeFrom t ws task (register (taskAt t task) o) slot (Pointer (register (taskAt t task) r)))))
+    through (pairGate t ws task o r) t
+    (storeFrom t ws task (register (taskAt t task) o) slot (Pointer (register (taskAt t task) r)))

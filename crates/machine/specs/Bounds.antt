@@ -12,6 +12,10 @@ use Rattle.table.specs.declared.Look.{Look}
 use Rattle.table.specs.declared.Look.the-variants.{White, Claimed, Forwarded, Lost}
 use Rattle.table.specs.declared.Copying.{Copying}
 use Rattle.table.specs.declared.Copying.the-variants.{Count, Locked, Neither}
+use Rattle.table.specs.declared.Placed.{Placed}
+use Rattle.table.specs.declared.Placed.the-variants.{Twin, Full}
+use Rattle.table.specs.declared.Pass.{Pass}
+use Rattle.table.specs.declared.Pass.the-variants.{On, Stopped}
 use Rattle.machine.specs.Words.{bottomOf, endOf}
 
 pub record Limited (l : Limits) : Type 0 where
@@ -64,6 +68,16 @@ Reaches (White len) s p n = (4 ≤ p) × (p + len ≤ n) × (len ≤ s)
 Reaches Claimed s p n = Unit {0}
 Reaches (Forwarded r len) s p n = (4 ≤ p) × (p + len ≤ n) × (4 ≤ r .0) × (r .0 + len ≤ n) × (len ≤ s)
 Reaches Lost s p n = Unit {0}
+
+-- marks after a replica was claimed
+abbrev pub Roomy : Placed → ℕ → ℕ → Type 0
+Roomy (Twin m r) end n = Fits m end n
+Roomy Full end n = Unit {0}
+
+-- marks of a flip's pass that goes on
+abbrev pub Passes : Pass → ℕ → ℕ → Type 0
+Passes (On m) end n = Fits m end n
+Passes (Stopped x) end n = Unit {0}
 
 abbrev pub Counts : Copying → ℕ → Type 0
 Counts (Count c) len = c ≤ len

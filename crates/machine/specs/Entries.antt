@@ -1,8 +1,9 @@
 -- Tables and task entries with some of their parts changed, and how a call ends.
 use Prim.Native.Nat.{ℕ}
 use mathlib.Core.List.{List, []}
-use mathlib.Core.Bool.{Bool}
+use mathlib.Core.Bool.{Bool, true, false}
 use lib.ListN.{getD, set}
+use lib.Dec.{ltb}
 use Rattle.table.specs.declared.Primary.{Primary}
 use Rattle.table.specs.declared.Limits.{Limits}
 use Rattle.table.specs.declared.Marks.{Marks}
@@ -45,6 +46,11 @@ nil = record { 0 = 0 }
 
 abbrev pub register : Task → ℕ → Primary
 register e r = getD (e .regs) r nil
+
+-- the register that a pending object goes to is one
+abbrev pub pendingOk : Pending → Bool
+pendingOk Nothing = true
+pendingOk (Making p r len f) = ltb r 8
 
 -- one entry changed
 unfoldable pub withTask : Table → ℕ → Task → Table

@@ -5,6 +5,7 @@ use mathlib.Core.Bool.{Bool}
 use lib.ListN.{set}
 use lib.Dec.{leb}
 use Rattle.table.specs.declared.Primary.{Primary}
+use Rattle.table.specs.declared.Replica.{Replica}
 use Rattle.table.specs.declared.Marks.{Marks}
 use Rattle.table.specs.declared.Operand.{Operand}
 use Rattle.table.specs.declared.Copied.{Copied}
@@ -14,11 +15,9 @@ use Rattle.table.specs.declared.Then.the-variants.{ToFillCopy}
 use Rattle.table.specs.declared.Place.the-variants.{FillCopy, Take}
 use Rattle.table.specs.declared.Object.{Object}
 use Rattle.table.specs.declared.Object.the-variants.{Whole, Torn}
-use Rattle.table.specs.declared.Look.{Look}
-use Rattle.table.specs.declared.Look.the-variants.{White, Claimed, Forwarded, Lost}
 use Rattle.table.specs.declared.Deed.the-variants.{Goes, GoesWith, EndsWith}
 use Rattle.machine.specs.Basics.{pick}
-use Rattle.machine.specs.Words.{operandWord, copiedWord, objectOf, lookOf}
+use Rattle.machine.specs.Words.{operandWord, copiedWord, objectOf, lookOf, ifForwarded}
 use Rattle.machine.specs.Deeds.{Acted, acted, fails}
 use Rattle.machine.specs.Look.{lookAhead}
 
@@ -36,14 +35,11 @@ fillWriteOf on m ws s Nothing v = fails 11 ws
 fillWriteOf on m ws s (Making p r len f) v = fillWriteIn on m ws p r len f v (objectOf ws s p)
 
 -- slot f of its replica written, and counted; then pay k
-abbrev pub fillCopyIn : Marks → List ℕ → ℕ → Primary → ℕ → ℕ → ℕ → Copied → Look → Acted
-fillCopyIn m ws k p r len f c (White l) = fails 11 ws
-fillCopyIn m ws k p r len f c Claimed = fails 11 ws
-fillCopyIn m ws k p r len f c (Forwarded q l) =
+abbrev pub fillCopyIn : Marks → List ℕ → ℕ → Primary → ℕ → ℕ → ℕ → Copied → Replica → ℕ → Acted
+fillCopyIn m ws k p r len f c q l =
     pick (leb l f) (fails 11 ws)
     (acted (GoesWith m (Making p r len (f + 1)) (Take k)) (set ws (q .0 + f) (copiedWord c)))
-fillCopyIn m ws k p r len f c Lost = fails 11 ws
 
 unfoldable pub fillCopyOf : Marks → List ℕ → ℕ → ℕ → Pending → Copied → Acted
 fillCopyOf m ws s k Nothing c = fails 11 ws
-fillCopyOf m ws s k (Making p r len f) c = fillCopyIn m ws k p r len f c (lookOf ws s p)
+fillCopyOf m ws s k (Making p r len f) c = ifForwarded (lookOf ws s p) (fillCopyIn m ws k p r len f c) (fails 11 ws)

@@ -24,7 +24,7 @@ use Rattle.table.specs.declared.Deed.the-variants.{Goes, Waits}
 use Rattle.table.specs.declared.Placed.{Placed}
 use Rattle.table.specs.declared.Placed.the-variants.{Twin, Full}
 use Rattle.machine.specs.Basics.{pick}
-use Rattle.machine.specs.Words.{replica, objectOf, lookOf, roomFor, laid}
+use Rattle.machine.specs.Words.{replica, objectOf, lookOf, ifForwarded, roomFor, laid}
 use Rattle.machine.specs.Entries.{marksAt}
 use Rattle.machine.specs.Deeds.{Acted, acted, fails}
 
@@ -40,15 +40,16 @@ abbrev pub lookAhead : Operand → Then → (Copied → Place) → Place
 lookAhead (Plain w) then copy = copy (Same w)
 lookAhead (Pointer p) then copy = pick (eqb (p .0) 0) (copy (Renamed (replica 0))) (Looking p then)
 
--- Look: header 0 becomes 1 (then place follows); header 1 waits for the claimer; else the header is the replica pointer
-abbrev pub lookCase : Marks → List ℕ → Primary → Then → Look → Acted
-lookCase m ws p then (White len) = acted (Goes m (Placing p then)) (set ws (p .0 - 1) 1)
-lookCase m ws p then Claimed = acted (Waits (Claimer p)) ws
-lookCase m ws p then (Forwarded r len) = acted (Goes m (goOn then r)) ws
-lookCase m ws p then Lost = fails 11 ws
+-- a look that found no replica: header 0 becomes 1 (then place follows); header 1 waits for the claimer
+abbrev pub unplacedCase : Marks → List ℕ → Primary → Then → Look → Acted
+unplacedCase m ws p then (White len) = acted (Goes m (Placing p then)) (set ws (p .0 - 1) 1)
+unplacedCase m ws p then Claimed = acted (Waits (Claimer p)) ws
+unplacedCase m ws p then (Forwarded r len) = fails 11 ws
+unplacedCase m ws p then Lost = fails 11 ws
 
+-- Look: the replica is taken out, or the look leaves on claim, wait or damage
 unfoldable pub lookStepOf : Marks → List ℕ → ℕ → Primary → Then → Acted
-lookStepOf m ws s p then = lookCase m ws p then (lookOf ws s p)
+lookStepOf m ws s p then = ifForwarded (lookOf ws s p) (λ r len. acted (Goes m (goOn then r)) ws) (unplacedCase m ws p then (lookOf ws s p))
 
 -- what claiming a replica leaves
 pub record PlacedIn : Type 0 where

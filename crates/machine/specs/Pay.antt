@@ -14,14 +14,12 @@ use Rattle.table.specs.declared.Place.{Place}
 use Rattle.table.specs.declared.Place.the-variants.{Take, Read, Put, Release}
 use Rattle.table.specs.declared.Object.{Object}
 use Rattle.table.specs.declared.Object.the-variants.{Whole, Torn}
-use Rattle.table.specs.declared.Look.{Look}
-use Rattle.table.specs.declared.Look.the-variants.{White, Claimed, Forwarded, Lost}
 use Rattle.table.specs.declared.Copying.{Copying}
 use Rattle.table.specs.declared.Copying.the-variants.{Count, Locked, Neither}
 use Rattle.table.specs.declared.Deed.{Deed}
 use Rattle.table.specs.declared.Deed.the-variants.{Goes, Ends}
 use Rattle.machine.specs.Basics.{pick}
-use Rattle.machine.specs.Words.{primary, copiedWord, objectOf, lookOf, copyingOf}
+use Rattle.machine.specs.Words.{primary, copiedWord, objectOf, lookOf, ifForwarded, copyingOf}
 use Rattle.machine.specs.Entries.{marksAt}
 use Rattle.machine.specs.Deeds.{Acted, acted, fails}
 use Rattle.machine.specs.Look.{lookAhead}
@@ -34,14 +32,12 @@ takeCount m ws n p r (Count c) =
 takeCount m ws n p r (Locked i) = fails 11 ws
 takeCount m ws n p r Neither = fails 11 ws
 
-abbrev pub takeCase : Marks → List ℕ → ℕ → Primary → Look → Acted
-takeCase m ws n p (White len) = fails 11 ws
-takeCase m ws n p Claimed = fails 11 ws
-takeCase m ws n p (Forwarded r len) = takeCount m ws n p r (copyingOf len (getD ws (r .0 - 1) 0))
-takeCase m ws n p Lost = fails 11 ws
+abbrev pub takeIn : Marks → List ℕ → ℕ → Primary → Replica → ℕ → Acted
+takeIn m ws n p r len = takeCount m ws n p r (copyingOf len (getD ws (r .0 - 1) 0))
 
 unfoldable pub takeOf : Marks → List ℕ → ℕ → ℕ → Acted
-takeOf m ws s n = takeCase m ws n (primary (getD ws (m .top) 0)) (lookOf ws s (primary (getD ws (m .top) 0)))
+takeOf m ws s n =
+    ifForwarded (lookOf ws s (primary (getD ws (m .top) 0))) (takeIn m ws n (primary (getD ws (m .top) 0))) (fails 11 ws)
 
 -- Read the primary slot: a look follows if it is a non-nil pointer
 abbrev pub readCase : Marks → List ℕ → ℕ → Primary → ℕ → Object → Acted
@@ -56,25 +52,19 @@ unfoldable pub readOf : Marks → List ℕ → ℕ → ℕ → Primary → ℕ �
 readOf m ws s n x i = readCase m ws n x i (objectOf ws s x)
 
 -- Put into the replica
-abbrev pub putCase : Marks → List ℕ → ℕ → Primary → ℕ → Copied → Look → Acted
-putCase m ws n x i c (White len) = fails 11 ws
-putCase m ws n x i c Claimed = fails 11 ws
-putCase m ws n x i c (Forwarded r len) =
-    pick (leb len i) (fails 11 ws) (acted (Goes m (Release n x i)) (set ws (r .0 + i) (copiedWord c)))
-putCase m ws n x i c Lost = fails 11 ws
+abbrev pub putIn : Marks → List ℕ → ℕ → Primary → ℕ → Copied → Replica → ℕ → Acted
+putIn m ws n x i c r len = pick (leb len i) (fails 11 ws) (acted (Goes m (Release n x i)) (set ws (r .0 + i) (copiedWord c)))
 
 unfoldable pub putOf : Marks → List ℕ → ℕ → ℕ → Primary → ℕ → Copied → Acted
-putOf m ws s n x i c = putCase m ws n x i c (lookOf ws s x)
+putOf m ws s n x i c = ifForwarded (lookOf ws s x) (putIn m ws n x i c) (fails 11 ws)
 
 -- the last copy ends the payment, and with it the instruction
 abbrev pub paid : Marks → ℕ → Deed
 paid m n = pick (eqb n 1) (Ends m) (Goes m (Take (n - 1)))
 
 -- Release: header = slot number, push back if above 0
-abbrev pub releaseCase : Marks → List ℕ → ℕ → Primary → ℕ → Look → Acted
-releaseCase m ws n x i (White len) = fails 11 ws
-releaseCase m ws n x i Claimed = fails 11 ws
-releaseCase m ws n x i (Forwarded r len) =
+abbrev pub releaseIn : Marks → List ℕ → ℕ → Primary → ℕ → Replica → ℕ → Acted
+releaseIn m ws n x i r len =
     pick (leb len i) (fails 11 ws)
     (pick (eqb (m .j) 0) (fails 11 ws)
     (pick (eqb n 0) (fails 11 ws)
@@ -83,7 +73,6 @@ releaseCase m ws n x i (Forwarded r len) =
     (acted
     (paid (marksAt (m .a) (m .top - 1) (m .j - 1) (m .copies + 1)) n)
     (set (set ws (r .0 - 1) i) (m .top - 1) (x .0))))))
-releaseCase m ws n x i Lost = fails 11 ws
 
 unfoldable pub releaseOf : Marks → List ℕ → ℕ → ℕ → Primary → ℕ → Acted
-releaseOf m ws s n x i = releaseCase m ws n x i (lookOf ws s x)
+releaseOf m ws s n x i = ifForwarded (lookOf ws s x) (releaseIn m ws n x i) (fails 11 ws)

@@ -3,8 +3,6 @@ use Prim.Native.Nat.{ℕ, _+_}
 use mathlib.Core.List.{List}
 use mathlib.Core.Bool.{Bool, true, false}
 use lib.Dec.{ltb}
-use Rattle.table.specs.declared.Pending.{Pending}
-use Rattle.table.specs.declared.Pending.the-variants.{Nothing, Making}
 use Rattle.table.specs.declared.Place.{Place}
 use Rattle.table.specs.declared.Place.the-variants.{Idle, New, Asked, FillWrite, FillCopy, StoreWrite, Meet, StoreCopy, Take, Read, Put, Release, Looking, Placing}
 use Rattle.table.specs.declared.Task.{Task}
@@ -21,7 +19,7 @@ use Rattle.table.specs.declared.Answer.the-variants.{Done, Moved, Wait}
 use Rattle.table.specs.declared.Outcome.{Outcome}
 use Rattle.machine.specs.Basics.{pick}
 use Rattle.machine.specs.Words.{endOf}
-use Rattle.machine.specs.Entries.{taskAt, movedTable, out, no, refused, ends}
+use Rattle.machine.specs.Entries.{pendingOk, taskAt, movedTable, out, no, refused, ends}
 use Rattle.machine.specs.Entries.{Ends as Ended}
 use Rattle.machine.specs.Gate.{callGate}
 use Rattle.machine.specs.Tasks.{seekOf, greyOf}
@@ -104,11 +102,6 @@ onStepOf t ws i e (Release n x k) = settle t i (releaseOf (t .marks) ws (t .limi
 onStepOf t ws i e (Looking p then) = settle t i (lookStepOf (t .marks) ws (t .limits .s) p then)
 onStepOf t ws i e (Placing p then) =
     settle t i (placeStepOf (t .marks) (endOf (t .upper) (t .limits .h)) ws (t .limits .s) p then)
-
--- the register that a pending object goes to
-abbrev pub pendingOk : Pending → Bool
-pendingOk Nothing = true
-pendingOk (Making p r len f) = ltb r 8
 
 abbrev pub placeStepOr : Table → List ℕ → ℕ → Task → Ended
 placeStepOr t ws i e = pick (t .on) (onStepOf t ws i e (e .place)) (offStepOf t ws i e (e .place))

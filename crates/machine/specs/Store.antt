@@ -5,6 +5,7 @@ use mathlib.Core.Bool.{Bool}
 use lib.ListN.{getD, set}
 use lib.Dec.{leb, eqb}
 use Rattle.table.specs.declared.Primary.{Primary}
+use Rattle.table.specs.declared.Replica.{Replica}
 use Rattle.table.specs.declared.Marks.{Marks}
 use Rattle.table.specs.declared.Operand.{Operand}
 use Rattle.table.specs.declared.Copied.{Copied}
@@ -19,9 +20,11 @@ use Rattle.table.specs.declared.Look.the-variants.{White, Claimed, Forwarded, L
 use Rattle.table.specs.declared.Copying.{Copying}
 use Rattle.table.specs.declared.Copying.the-variants.{Count, Locked, Neither}
 use Rattle.table.specs.declared.Sought.the-variants.{Claimer, Holder}
-use Rattle.table.specs.declared.Deed.the-variants.{Goes, Ends, Waits}
+use Rattle.table.specs.declared.Deed.{Deed}
+use Rattle.table.specs.declared.Deed.the-variants.{Goes, Ends, Waits, Fails}
 use Rattle.machine.specs.Basics.{pick}
-use Rattle.machine.specs.Words.{operandWord, copiedWord, objectOf, lookOf, copyingOf}
+use Rattle.machine.specs.Numbers.{refusal}
+use Rattle.machine.specs.Words.{operandWord, copiedWord, objectOf, lookOf, ifForwarded, copyingOf}
 use Rattle.machine.specs.Deeds.{Acted, acted, fails}
 use Rattle.machine.specs.Look.{lookAhead}
 
@@ -45,25 +48,24 @@ meetCopying m ws x i v (Locked l) =
     pick (eqb l i) (acted (Waits (Holder x i)) ws) (acted (Goes m (lookAhead v ToStoreCopy StoreCopy)) ws)
 meetCopying m ws x i v Neither = fails 11 ws
 
--- header 0 goes straight to pay; header 1 waits for the claimer
-abbrev pub meetCase : Marks → List ℕ → ℕ → Primary → ℕ → Operand → Look → Acted
-meetCase m ws k x i v (White len) = acted (Goes m (Take k)) ws
-meetCase m ws k x i v Claimed = acted (Waits (Claimer x)) ws
-meetCase m ws k x i v (Forwarded r len) = meetCopying m ws x i v (copyingOf len (getD ws (r .0 - 1) 0))
-meetCase m ws k x i v Lost = fails 11 ws
+-- no replica: header 0 goes straight to pay; header 1 waits for the claimer
+abbrev pub unmetCase : Marks → ℕ → Primary → Look → Deed
+unmetCase m k x (White len) = Goes m (Take k)
+unmetCase m k x Claimed = Waits (Claimer x)
+unmetCase m k x (Forwarded r len) = Fails (refusal 11)
+unmetCase m k x Lost = Fails (refusal 11)
+
+abbrev pub meetIn : Marks → List ℕ → Primary → ℕ → Operand → Replica → ℕ → Acted
+meetIn m ws x i v r len = meetCopying m ws x i v (copyingOf len (getD ws (r .0 - 1) 0))
 
 unfoldable pub meetOf : Marks → List ℕ → ℕ → ℕ → Storing → Operand → Acted
 meetOf m ws s k Nowhere v = fails 11 ws
-meetOf m ws s k (Slot x i) v = meetCase m ws k x i v (lookOf ws s x)
+meetOf m ws s k (Slot x i) v = ifForwarded (lookOf ws s x) (meetIn m ws x i v) (acted (unmetCase m k x (lookOf ws s x)) ws)
 
 -- the replica's slot written; then pay k
-abbrev pub storeCopyIn : Marks → List ℕ → ℕ → ℕ → Copied → Look → Acted
-storeCopyIn m ws k i c (White len) = fails 11 ws
-storeCopyIn m ws k i c Claimed = fails 11 ws
-storeCopyIn m ws k i c (Forwarded r len) =
-    pick (leb len i) (fails 11 ws) (acted (Goes m (Take k)) (set ws (r .0 + i) (copiedWord c)))
-storeCopyIn m ws k i c Lost = fails 11 ws
+abbrev pub storeCopyIn : Marks → List ℕ → ℕ → ℕ → Copied → Replica → ℕ → Acted
+storeCopyIn m ws k i c r len = pick (leb len i) (fails 11 ws) (acted (Goes m (Take k)) (set ws (r .0 + i) (copiedWord c)))
 
 unfoldable pub storeCopyOf : Marks → List ℕ → ℕ → ℕ → Storing → Copied → Acted
 storeCopyOf m ws s k Nowhere c = fails 11 ws
-storeCopyOf m ws s k (Slot x i) c = storeCopyIn m ws k i c (lookOf ws s x)
+storeCopyOf m ws s k (Slot x i) c = ifForwarded (lookOf ws s x) (storeCopyIn m ws k i c) (fails 11 ws)

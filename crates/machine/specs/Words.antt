@@ -68,6 +68,13 @@ lookAt ws p Torn = Lost
 unfoldable pub lookOf : List ℕ → ℕ → Primary → Look
 lookOf ws s p = lookAt ws p (objectOf ws s p)
 
+-- the replica taken out, or what is left otherwise
+abbrev pub ifForwarded {ℓ} : {A : Type ℓ} → Look → (Replica → ℕ → A) → A → A
+ifForwarded (White len) f a = a
+ifForwarded Claimed f a = a
+ifForwarded (Forwarded r len) f a = f r len
+ifForwarded Lost f a = a
+
 -- a header h of a replica of length len: the slots still to copy, or 256+i while slot i is locked
 unfoldable pub copyingOf : ℕ → ℕ → Copying
 copyingOf len h =

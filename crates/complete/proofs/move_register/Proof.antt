@@ -1,4 +1,3 @@
-use Rattle.machine.proofs.Rules.{tests}
 use native.Mathlib.Omega.{arith}
 use Rattle.machine.specs.Complete.{moveOf}
 use borrow.Author.Needs.{needs}
@@ -27,9 +26,9 @@ refused-requires c κs = search needs
 returns : tie.Need-returns
 unfolding moveOf
 returns c =
-    simp (c .refused .ensures,
+    rw (← (c .before .before .before .before .pair-gate .ensures .0),
       c .before .before .g .given .1,
-      ← (c .before .before .before .before .pair-gate .ensures .0))
+      c .refused .ensures)
 
 enum-told : tie.Need-enum-told
 enum-told c = search needs
@@ -62,12 +61,11 @@ with-register-requires c κs = let f = rw (c .before .before .before .before .en
 returns-2 : tie.Need-returns-2
 unfolding moveOf
 returns-2 c =
-    simp (tests,
-      c .with-register .ensures,
-      c .before .before .if1 .taken,
-      ← (c .before .before .before .idle .ensures),
+    rw (← (c .before .before .before .before .before .before .before .pair-gate .ensures .0),
       c .before .before .before .before .before .enum-told .given .1,
-      ← (c .before .before .before .before .before .before .before .pair-gate .ensures .0))
+      ← (c .before .before .before .idle .ensures),
+      c .before .before .if1 .taken,
+      c .with-register .ensures)
 
 -- src/lib.rt:40:5
 refused-requires-2 : tie.Need-refused-requires-2
@@ -77,12 +75,11 @@ refused-requires-2 c κs = search needs
 returns-3 : tie.Need-returns-3
 unfolding moveOf
 returns-3 c =
-    simp (tests,
-      c .refused2 .ensures,
-      c .before .if1 .left,
-      ← (c .before .before .idle .ensures),
+    rw (← (c .before .before .before .before .before .before .pair-gate .ensures .0),
       c .before .before .before .before .enum-told .given .1,
-      ← (c .before .before .before .before .before .before .pair-gate .ensures .0))
+      ← (c .before .before .idle .ensures),
+      c .before .if1 .left,
+      c .refused2 .ensures)
 
 pub move-register-spec : {M : Type 1} → statement M
 move-register-spec =

@@ -1,14 +1,16 @@
-// The one check of a pointer, the one look, a replica's header, and room.
+// The one check of a pointer, the one look, a replica's header, room, and the words of values.
 ghost use mathlib.Core.Path.{_≡_};
 ghost use Prim.Native.Nat.{ℕ, _+_, _≤_, _<_};
 ghost use lib.ListN.{length};
 ghost use Rattle.machine.specs.Basics.{When};
-ghost use Rattle.machine.specs.Words.{descriptor, objectOf, lookOf, copyingOf, roomOf, roomFor};
+ghost use Rattle.machine.specs.Words.{operandWord, copiedWord, descriptor, objectOf, lookOf, copyingOf, roomOf, roomFor};
 ghost use Rattle.machine.specs.Bounds.{Stands, Reaches, Counts};
+use table::Copied;
 use table::Copying;
 use table::Look;
 use table::Marks;
 use table::Object;
+use table::Operand;
 use table::Primary;
 use table::Replica;
 
@@ -110,4 +112,23 @@ pub fn room_for(on: bool, m: Marks, end: u32, need: u32) -> bool
         return true;
     }
     false
+}
+
+// The word of a value in a primary, and in a replica.
+pub fn operand_word(v: Operand) -> u32
+    ensures { λ r. ⌜ r ≡ operandWord v ⌝ }
+{
+    match v {
+        Operand::Plain(w) => w,
+        Operand::Pointer(p) => p.0,
+    }
+}
+
+pub fn copied_word(c: Copied) -> u32
+    ensures { λ r. ⌜ r ≡ copiedWord c ⌝ }
+{
+    match c {
+        Copied::Same(w) => w,
+        Copied::Renamed(r) => r.0,
+    }
 }

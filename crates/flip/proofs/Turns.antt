@@ -1,0 +1,88 @@
+-- A pass of a flip that visits in order, and the first entries made new, seen from their loops.
+use Prim.Native.Nat.{ℕ, zero, suc, _+_, _<_, _≤_}
+use mathlib.Core.Path.{_≡_, refl, sym, ap, _∙_}
+use mathlib.Core.List.{List, [], _∷_, map}
+use native.Mathlib.Omega.{arith}
+use native.Mathlib.Numerals.{add-one}
+use lib.ListN.{length, length-map, getD, set, take, drop, drop-of-length-le}
+use lib.Seq.{drop-cons, length-take-le}
+use Rattle.table.specs.declared.Marks.{Marks}
+use Rattle.table.specs.declared.Refusal.{Refusal}
+use Rattle.table.specs.declared.Pass.{Pass}
+use Rattle.table.specs.declared.Pass.the-variants.{On, Stopped}
+use Rattle.machine.specs.Basics.{firstOf}
+use Rattle.machine.specs.Bounds.{Fits, Passes}
+use Rattle.machine.specs.Flip.{Went, went, next, passOf}
+
+-- The loop's invariant: of n in all, i are visited; the pass from the start is the pass from here.
+pub record Passing {A : Type 0} (visit : A → Marks → List ℕ → Went) (xs : List A) (n end : ℕ) (m₀ : Marks) (ws₀ : List ℕ) (m : Marks) (ws : List ℕ) (i : ℕ) : Type 0 where
+  pub low : i ≤ n
+  pub all : length xs ≡ n
+  pub same : length ws ≡ length ws₀
+  pub fits : Fits m end (length ws)
+  pub so : passOf visit xs m₀ ws₀ ≡ passOf visit (drop i xs) m ws
+
+pub begins :
+    {A : Type 0} (visit : A → Marks → List ℕ → Went) (xs : List A) (n end : ℕ) (m : Marks) (ws : List ℕ) →
+    length xs ≡ n → Fits m end (length ws) → Passing visit xs n end m ws m ws 0
+begins visit xs n end m ws l h = record { low = omega arith; all = l; same = refl; fits = h; so = refl }
+
+module _ {A : Type 0} {visit : A → Marks → List ℕ → Went} {xs : List A} {n end : ℕ} {m₀ : Marks} {ws₀ : List ℕ} {m : Marks} {ws : List ℕ} {i : ℕ} (k : Passing visit xs n end m₀ ws₀ m ws i) where
+  pub ends : n ≤ i → (went (On m) ws ≡ passOf visit xs m₀ ws₀) × Passes (On m) end (length ws₀)
+  unfolding passOf
+  ends h =
+      let l : length xs ≤ i = omega (arith, k .all) in
+      (sym (k .so ∙ rw (drop-of-length-le xs l)), rw (← (k .same)) (k .fits))
+
+  -- the visit to the next one, a, came to v and the words `after`
+  module _ {a : A} {v : Pass} {after : List ℕ} (d : A) (h : i < n) (it : getD xs i d ≡ a) (len : length after ≡ length ws) (e : (went v after ≡ visit a m ws) × Passes v end (length ws)) where
+    turn : passOf visit xs m₀ ws₀ ≡ next (went v after) (passOf visit (drop (i + 1) xs))
+    unfolding passOf
+    turn =
+        let l : i < length xs = omega (arith, k .all) in
+        k .so ∙ rw (drop-cons xs i d l, add-one, it, ← (e .0))
+
+    pub goes-on : {x : Marks} → v ≡ On x → Passing visit xs n end m₀ ws₀ x after (i + 1)
+    goes-on {x} o =
+        record
+        { low = omega arith; all = k .all; same = len ∙ k .same; fits = rw len (rw o at (e .1)); so = turn ∙ rw o }
+
+    pub stops : {x : Refusal} → v ≡ Stopped x → (went v after ≡ passOf visit xs m₀ ws₀) × Passes v end (length ws₀)
+    stops {x} o = (sym (turn ∙ rw o), rw o tt)
+
+-- a pass over the first n alone
+pub begins-first :
+    {A : Type 0} (visit : A → Marks → List ℕ → Went) (xs : List A) (n end : ℕ) (m : Marks) (ws : List ℕ) →
+    n ≤ length xs → Fits m end (length ws) → Passing visit (take n xs) n end m ws m ws 0
+begins-first visit xs n end m ws l h = begins visit (take n xs) n end m ws (length-take-le n xs l) h
+
+-- The invariant of a loop that makes entries new: of the first n, i are.
+pub record Renewing {A : Type 0} (new : A → A) (xs : List A) (n : ℕ) (u : List A) (i : ℕ) : Type 0 where
+  pub low : i ≤ n
+  pub all : n ≤ length xs
+  pub done : u ≡ firstOf i new xs
+
+first-suc :
+    {A : Type 0} (new : A → A) (d : A) (xs : List A) (i : ℕ) → i < length xs →
+    set (firstOf i new xs) i (new (getD xs i d)) ≡ firstOf (suc i) new xs
+unfolding firstOf
+first-suc new d [] i h = let z : _≡_ {A = ℕ} 0 1 = omega arith in absurd (omega arith)
+first-suc new d (x ∷ xs) zero h = refl
+first-suc new d (x ∷ xs) (suc i) h = ap (λ ys. new x ∷ ys) (first-suc new d xs i (omega arith))
+
+pub none-new : {A : Type 0} (new : A → A) (xs : List A) (n : ℕ) → n ≤ length xs → Renewing new xs n xs 0
+unfolding firstOf
+none-new new xs n l = record { low = omega arith; all = l; done = refl }
+
+module _ {A : Type 0} {new : A → A} {xs : List A} {n : ℕ} {u : List A} {i : ℕ} (k : Renewing new xs n u i) where
+  pub one-more : {y : A} (d : A) → i < n → y ≡ new (getD xs i d) → Renewing new xs n (set u i y) (i + 1)
+  one-more d h e =
+      let l : i < length xs = omega (arith, k .all) in
+      record { low = omega arith; all = k .all; done = rw (e, k .done, add-one) (first-suc new d xs i l) }
+
+  pub all-new : n ≤ i → u ≡ firstOf n new xs
+  all-new h = let e : i ≡ n = omega (arith, k .low) in rw e at (k .done)
+
+-- the length of an array of structs
+pub length-mapped : (X Y : Type 0) (f : X → Y) (l : List X) (n : ℕ) → length (map f l) ≡ n → length l ≡ n
+length-mapped X Y f l n p = sym (length-map l f) ∙ p

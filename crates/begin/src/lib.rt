@@ -253,7 +253,14 @@ pub fn begin_store(t: Table, words: &[u32], task: u32, object: u32, slot: u32, w
     store_from(t, words, i, x, slot, Operand::Plain(word))
 }
 
-pub fn begin_store_pointer(t: Table, words: &[u32], task: u32, object: u32, slot: u32, r: u32) -> Outcome
+pub fn begin_store_pointer(
+    t: Table,
+    words: &[u32],
+    task: u32,
+    object: u32,
+    slot: u32,
+    r: u32,
+) -> Outcome
     ensures { λ o. ⌜ Meets (Call.StorePointer task object slot r) t (now (words .entry)) (ends o (now (words .entry))) ⌝ }
 {
     let l = t.limits;

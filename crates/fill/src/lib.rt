@@ -34,7 +34,14 @@ fn fill_ahead(v: Operand) -> Place
 }
 
 // Fill: the next slot of the pending object is written; off, it counts and the Fill ends.
-pub fn fill_write(on: bool, m: Marks, words: &mut [u32], s: u32, pending: Pending, v: Operand) -> Deed
+pub fn fill_write(
+    on: bool,
+    m: Marks,
+    words: &mut [u32],
+    s: u32,
+    pending: Pending,
+    v: Operand,
+) -> Deed
     ensures { λ r. ⌜ acted r (now (words .exit)) ≡ fillWriteOf on m (now (words .entry)) s pending v ⌝ }
 {
     let Pending::Making(p, r, len, f) = pending else {

@@ -155,7 +155,16 @@ pub fn task_gate(l: Limits, life: Life, upper: bool, m: Marks, n: usize, task: u
 }
 
 // The same for a call with two registers or roots.
-pub fn pair_gate(l: Limits, life: Life, upper: bool, m: Marks, n: usize, task: u32, a: u32, b: u32) -> Gate
+pub fn pair_gate(
+    l: Limits,
+    life: Life,
+    upper: bool,
+    m: Marks,
+    n: usize,
+    task: u32,
+    a: u32,
+    b: u32,
+) -> Gate
     ensures { λ r. ⌜ (r ≡ pairGateOf l life upper m n task a b) × Paired r l upper m n task a b ⌝ }
 {
     let g = task_gate(l, life, upper, m, n, task);

@@ -37,7 +37,14 @@ fn store_ahead(v: Operand) -> Place
 }
 
 // Store: the primary slot is written; off, the Store ends.
-pub fn store_write(on: bool, m: Marks, words: &mut [u32], s: u32, storing: Storing, v: Operand) -> Deed
+pub fn store_write(
+    on: bool,
+    m: Marks,
+    words: &mut [u32],
+    s: u32,
+    storing: Storing,
+    v: Operand,
+) -> Deed
     ensures { λ r. ⌜ acted r (now (words .exit)) ≡ storeWriteOf on m (now (words .entry)) s storing v ⌝ }
 {
     let Storing::Slot(x, i) = storing else {

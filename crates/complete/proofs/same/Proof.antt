@@ -1,3 +1,4 @@
+-- complete::same: each return by the tests and the calls that led to it.
 use Rattle.machine.proofs.Rules.{tests}
 use native.Mathlib.Omega.{arith}
 use Rattle.machine.specs.Complete.{sameOf}
@@ -5,93 +6,79 @@ use borrow.Author.Tests.{eq-eqb}
 use borrow.Author.Needs.{needs}
 use Rattle.complete.proofs.same.Statement.{statement}
 use Rattle.complete.proofs.same.Tie as tie
-use Rattle.complete.proofs.same.Reads as reads
-use Rattle.complete.proofs.same.Lts as lts
-use Rattle.entries.proofs.refused.Reads as refused-reads
-use Rattle.gates.proofs.pair_gate.Reads as pair-gate-reads
-use Rattle.tasks.proofs.idle.Reads as idle-reads
 
--- src/lib.rt:127:9
 pair-gate-requires : tie.Need-pair-gate-requires
 pair-gate-requires c κs = search needs
 
--- src/lib.rt:128:23
 enum-known-g : tie.Need-enum-known-g
 enum-known-g c = search needs
 
--- src/lib.rt:129:9
 refused-requires : tie.Need-refused-requires
 refused-requires c κs = search needs
 
--- src/lib.rt:129:9
 returns : tie.Need-returns
 unfolding sameOf
 returns c =
-    simp (c .refused .ensures,
+    simp (
+      c .refused .ensures,
       c .before .before .g .given .1,
-      ← (c .before .before .before .before .pair-gate .ensures .0))
+      ← (c .before .before .before .before .pair-gate .ensures .0),
+    )
 
 enum-told : tie.Need-enum-told
 enum-told c = search needs
 
--- src/lib.rt:132:13
 mul-e : tie.Need-mul-e
 mul-e c = search needs
 
--- src/lib.rt:132:13
 element-copy-out-e : tie.Need-element-copy-out-e
 element-copy-out-e c = let f = rw (c .enum-told .given .1) at (c .before .before .pair-gate .ensures .1) in omega (arith, f .1, f .0 .sized .limited .p-high, f .2, f .3)
 
--- src/lib.rt:134:9
 idle-requires : tie.Need-idle-requires
 idle-requires c κs = search needs
 
--- src/lib.rt:136:17
 mul-p : tie.Need-mul-p
 mul-p c = search needs
 
--- src/lib.rt:136:17
 element-copy-out-p : tie.Need-element-copy-out-p
 element-copy-out-p c = let f = rw (c .before .before .before .enum-told .given .1) at (c .before .before .before .before .before .pair-gate .ensures .1) in omega (arith, f .1, f .0 .sized .limited .p-high, f .2, f .3)
 
--- src/lib.rt:137:17
 mul-q : tie.Need-mul-q
 mul-q c = search needs
 
--- src/lib.rt:137:17
 element-copy-out-q : tie.Need-element-copy-out-q
 element-copy-out-q c = let f = rw (c .before .before .before .before .enum-told .given .1) at (c .before .before .before .before .before .before .pair-gate .ensures .1) in omega (arith, f .1, f .0 .sized .limited .p-high, f .2, f .3)
 
--- src/lib.rt:139:13
 returns-2 : tie.Need-returns-2
 unfolding sameOf
 returns-2 c = rw (← (c .before .before .before .before .before .before .before .before .before .before .pair-gate .ensures .0), c .before .before .before .before .before .before .before .before .enum-told .given .1, ← (c .before .before .before .before .before .before .idle .ensures), c .before .before .before .before .before .if1 .taken, eq-eqb _ _ (c .if2 .taken))
 
--- src/lib.rt:144:9
 returns-3 : tie.Need-returns-3
 unfolding sameOf
 returns-3 c =
-    simp (tests,
+    simp (
+      tests,
       c .if2 .left,
       c .before .before .before .before .before .if1 .taken,
       ← (c .before .before .before .before .before .before .idle .ensures),
       c .before .before .before .before .before .before .before .before .enum-told .given .1,
-      ← (c .before .before .before .before .before .before .before .before .before .before .pair-gate .ensures .0))
+      ← (c .before .before .before .before .before .before .before .before .before .before .pair-gate .ensures .0),
+    )
 
--- src/lib.rt:149:5
 refused-requires-2 : tie.Need-refused-requires-2
 refused-requires-2 c κs = search needs
 
--- src/lib.rt:121:1
 returns-4 : tie.Need-returns-4
 unfolding sameOf
 returns-4 c =
-    simp (tests,
+    simp (
+      tests,
       c .refused2 .ensures,
       c .before .if1 .left,
       ← (c .before .before .idle .ensures),
       c .before .before .before .before .enum-told .given .1,
-      ← (c .before .before .before .before .before .before .pair-gate .ensures .0))
+      ← (c .before .before .before .before .before .before .pair-gate .ensures .0),
+    )
 
 pub same-spec : {M : Type 1} → statement M
 same-spec =

@@ -1,27 +1,21 @@
+-- entries::moved_table: each return by the tests and the calls that led to it.
 use Rattle.machine.specs.Entries.{movedTable}
 use borrow.Author.Needs.{needs}
 use Rattle.entries.proofs.moved_table.Statement.{statement}
 use Rattle.entries.proofs.moved_table.Tie as tie
-use Rattle.entries.proofs.moved_table.Reads as reads
-use Rattle.entries.proofs.moved_table.Lts as lts
 
--- src/lib.rt:103:13
 mul-e : tie.Need-mul-e
 mul-e c = search needs
 
--- src/lib.rt:103:13
 element-copy-out-e : tie.Need-element-copy-out-e
 element-copy-out-e c = search needs
 
--- src/lib.rt:104:5
 mul-t15 : tie.Need-mul-t15
 mul-t15 c = search needs
 
--- src/lib.rt:104:5
 element-set-from-u : tie.Need-element-set-from-u
 element-set-from-u c = search needs
 
--- src/lib.rt:98:1
 returns : tie.Need-returns
 unfolding movedTable
 returns c = search needs

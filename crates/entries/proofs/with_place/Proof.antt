@@ -1,28 +1,22 @@
+-- entries::with_place: each return by the tests and the calls that led to it.
 use Rattle.machine.specs.Entries.{withPlace}
 use Rattle.machine.specs.Entries.{withTask}
 use borrow.Author.Needs.{needs}
 use Rattle.entries.proofs.with_place.Statement.{statement}
 use Rattle.entries.proofs.with_place.Tie as tie
-use Rattle.entries.proofs.with_place.Reads as reads
-use Rattle.entries.proofs.with_place.Lts as lts
 
--- src/lib.rt:92:13
 mul-e : tie.Need-mul-e
 mul-e c = search needs
 
--- src/lib.rt:92:13
 element-copy-out-e : tie.Need-element-copy-out-e
 element-copy-out-e c = search needs
 
--- src/lib.rt:93:5
 mul-t8 : tie.Need-mul-t8
 mul-t8 c = search needs
 
--- src/lib.rt:93:5
 element-set-from-u : tie.Need-element-set-from-u
 element-set-from-u c = search needs
 
--- src/lib.rt:87:1
 returns : tie.Need-returns
 unfolding withPlace withTask
 returns c = search needs

@@ -1,36 +1,34 @@
+-- fill::fill_ahead: each return by the tests and the calls that led to it.
 use Rattle.machine.proofs.Rules.{tests}
 use borrow.Author.Needs.{needs}
 use Rattle.fill.proofs.fill_ahead.Statement.{statement}
 use Rattle.fill.proofs.fill_ahead.Tie as tie
-use Rattle.fill.proofs.fill_ahead.Reads as reads
-use Rattle.fill.proofs.fill_ahead.Lts as lts
 
--- src/lib.rt:26:24
 enum-known-v : tie.Need-enum-known-v
 enum-known-v c = search needs
 
--- src/lib.rt:27:26
 enum-known-v-2 : tie.Need-enum-known-v-2
 enum-known-v-2 c = search needs
 
--- src/lib.rt:29:17
 returns : tie.Need-returns
 returns c =
-    simp (tests,
+    simp (
+      tests,
       c .if1 .taken,
-      c .before .before .before .v2 .given .1)
+      c .before .before .before .v2 .given .1,
+    )
 
--- src/lib.rt:22:1
 returns-2 : tie.Need-returns-2
 returns-2 c =
     simp (c .before .v .given .1)
 
--- src/lib.rt:22:1
 returns-3 : tie.Need-returns-3
 returns-3 c =
-    simp (tests,
+    simp (
+      tests,
       c .if1 .left,
-      c .before .before .before .v2 .given .1)
+      c .before .before .before .v2 .given .1,
+    )
 
 pub fill-ahead-spec : {M : Type 1} → statement M
 fill-ahead-spec = tie.close (tie.spec enum-known-v enum-known-v-2 returns returns-2 returns-3)

@@ -1,57 +1,52 @@
+-- gates::task_gate: each return by the tests and the calls that led to it.
 use Rattle.machine.proofs.Rules.{tests}
 use Rattle.machine.specs.Gate.{taskGateOf}
 use borrow.Author.Needs.{needs}
 use Rattle.gates.proofs.task_gate.Statement.{statement}
 use Rattle.gates.proofs.task_gate.Tie as tie
-use Rattle.gates.proofs.task_gate.Reads as reads
-use Rattle.gates.proofs.task_gate.Lts as lts
-use Rattle.gates.proofs.gate.Reads as gate-reads
 
--- src/lib.rt:144:9
 gate-requires : tie.Need-gate-requires
 gate-requires c κs = search needs
 
--- src/lib.rt:147:16
 enum-told : tie.Need-enum-told
 enum-told c = search needs
 
--- src/lib.rt:148:17
 returns : tie.Need-returns
 unfolding taskGateOf
-returns c =
-    (
-      simp (tests,
-      c .if1 .taken,
-      c .before .enum-told .given .1,
-      ← (c .before .before .before .gate .ensures .0)),
-      (rw (c .before .enum-told .given .1) at (c .before .before .before .gate .ensures .1), c .if1 .taken),
-    )
+returns c = (
+  simp (
+    tests,
+    c .if1 .taken,
+    c .before .enum-told .given .1,
+    ← (c .before .before .before .gate .ensures .0),
+  ),
+  (rw (c .before .enum-told .given .1) at (c .before .before .before .gate .ensures .1), c .if1 .taken),
+)
 
--- src/lib.rt:152:20
 enum-known-g : tie.Need-enum-known-g
 enum-known-g c = search needs
 
--- src/lib.rt:140:1
 returns-2 : tie.Need-returns-2
 unfolding taskGateOf
-returns-2 c =
-    (
-      simp (tests,
-      c .if1 .left,
-      c .before .enum-told .given .1,
-      ← (c .before .before .before .gate .ensures .0)),
-      tt,
-    )
+returns-2 c = (
+  simp (
+    tests,
+    c .if1 .left,
+    c .before .enum-told .given .1,
+    ← (c .before .before .before .gate .ensures .0),
+  ),
+  tt,
+)
 
--- src/lib.rt:140:1
 returns-3 : tie.Need-returns-3
 unfolding taskGateOf
-returns-3 c =
-    (
-      simp (c .before .g .given .1,
-      ← (c .before .before .before .gate .ensures .0)),
-      tt,
-    )
+returns-3 c = (
+  simp (
+    c .before .g .given .1,
+    ← (c .before .before .before .gate .ensures .0),
+  ),
+  tt,
+)
 
 pub task-gate-spec : {M : Type 1} → statement M
 task-gate-spec =

@@ -1,42 +1,32 @@
-
+-- look::go_on: each return by the tests and the calls that led to it.
 use borrow.Author.Needs.{needs}
 use Rattle.look.proofs.go_on.Statement.{statement}
 use Rattle.look.proofs.go_on.Tie as tie
-use Rattle.look.proofs.go_on.Reads as reads
-use Rattle.look.proofs.go_on.Lts as lts
 
--- src/lib.rt:27:23
 enum-known-then : tie.Need-enum-known-then
 enum-known-then c = search needs
 
--- src/lib.rt:28:47
 enum-told : tie.Need-enum-told
 enum-told c = search needs
 
--- src/lib.rt:29:45
 enum-told-2 : tie.Need-enum-told-2
 enum-told-2 c = search needs
 
--- src/lib.rt:30:21
 enum-known-then-2 : tie.Need-enum-known-then-2
 enum-known-then-2 c = search needs
 
--- src/lib.rt:23:1
 returns : tie.Need-returns
 returns c =
     simp (c .before .then .given .1)
 
--- src/lib.rt:23:1
 returns-2 : tie.Need-returns-2
 returns-2 c =
     simp (c .enum-told .given .1)
 
--- src/lib.rt:23:1
 returns-3 : tie.Need-returns-3
 returns-3 c =
     simp (c .enum-told2 .given .1)
 
--- src/lib.rt:23:1
 returns-4 : tie.Need-returns-4
 returns-4 c =
     simp (c .before .then2 .given .1)

@@ -1,36 +1,28 @@
+-- look::lay: each return by the tests and the calls that led to it.
 use native.Mathlib.Omega.{arith}
 use lib.ListN.{length-set}
 use borrow.Author.Needs.{needs}
 use Rattle.look.proofs.lay.Statement.{statement}
 use Rattle.look.proofs.lay.Tie as tie
-use Rattle.look.proofs.lay.Reads as reads
-use Rattle.look.proofs.lay.Lts as lts
 
--- src/lib.rt:67:5
 mul-words : tie.Need-mul-words
 mul-words c = search needs
 
--- src/lib.rt:67:5
 slice-write-words : tie.Need-slice-write-words
 slice-write-words c = search needs
 
--- src/lib.rt:68:11
 add-words : tie.Need-add-words
 add-words c = search needs
 
--- src/lib.rt:68:5
 mul-words-2 : tie.Need-mul-words-2
 mul-words-2 c = search needs
 
--- src/lib.rt:68:5
 slice-write-words-2 : tie.Need-slice-write-words-2
 slice-write-words-2 c = simp length-set (omega arith)
 
--- src/lib.rt:63:1
 same-length : tie.Need-same-length
 same-length c = search needs
 
--- src/lib.rt:63:1
 returns : tie.Need-returns
 returns c = search needs
 

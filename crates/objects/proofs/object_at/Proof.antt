@@ -1,105 +1,99 @@
+-- objects::object_at: each return by the tests and the calls that led to it.
 use Rattle.machine.proofs.Rules.{tests}
 use native.Mathlib.Omega.{arith}
 use Rattle.machine.specs.Words.{objectOf}
 use borrow.Author.Needs.{needs}
 use Rattle.objects.proofs.object_at.Statement.{statement}
 use Rattle.objects.proofs.object_at.Tie as tie
-use Rattle.objects.proofs.object_at.Reads as reads
-use Rattle.objects.proofs.object_at.Lts as lts
 
--- src/lib.rt:27:14
 cast-at : tie.Need-cast-at
 cast-at c = search needs
 
--- src/lib.rt:30:9
 returns : tie.Need-returns
 unfolding objectOf
-returns c =
-    (
-      simp (tests,
-      c .if1 .taken),
-      tt,
-    )
+returns c = (
+  simp (
+    tests,
+    c .if1 .taken,
+  ),
+  tt,
+)
 
--- src/lib.rt:33:9
 returns-2 : tie.Need-returns-2
 unfolding objectOf
-returns-2 c =
-    (
-      simp (tests,
-      c .if2 .taken,
-      c .before .if1 .left),
-      tt,
-    )
+returns-2 c = (
+  simp (
+    tests,
+    c .if2 .taken,
+    c .before .if1 .left,
+  ),
+  tt,
+)
 
--- src/lib.rt:35:19
 sub-d : tie.Need-sub-d
 sub-d c = search needs
 
--- src/lib.rt:35:13
 mul-d : tie.Need-mul-d
 mul-d c = search needs
 
--- src/lib.rt:35:13
 shared-slice-read-d : tie.Need-shared-slice-read-d
 shared-slice-read-d c = search needs
 
--- src/lib.rt:39:9
 returns-3 : tie.Need-returns-3
 unfolding objectOf
-returns-3 c =
-    (
-      simp (tests,
-      c .if3 .taken,
-      c .before .before .if2 .left,
-      c .before .before .before .if1 .left),
-      tt,
-    )
+returns-3 c = (
+  simp (
+    tests,
+    c .if3 .taken,
+    c .before .before .if2 .left,
+    c .before .before .before .if1 .left,
+  ),
+  tt,
+)
 
--- src/lib.rt:42:9
 returns-4 : tie.Need-returns-4
 unfolding objectOf
-returns-4 c =
-    (
-      simp (tests,
-      c .if4 .taken,
-      c .before .if3 .left,
-      c .before .before .before .if2 .left,
-      c .before .before .before .before .if1 .left),
-      tt,
-    )
+returns-4 c = (
+  simp (
+    tests,
+    c .if4 .taken,
+    c .before .if3 .left,
+    c .before .before .before .if2 .left,
+    c .before .before .before .before .if1 .left,
+  ),
+  tt,
+)
 
--- src/lib.rt:44:17
 cast-if5 : tie.Need-cast-if5
 cast-if5 c = search needs
 
--- src/lib.rt:45:9
 returns-5 : tie.Need-returns-5
 unfolding objectOf
-returns-5 c =
-    (
-      simp (tests,
-      c .if5 .taken,
-      c .before .if4 .left,
-      c .before .before .if3 .left,
-      c .before .before .before .before .if2 .left,
-      c .before .before .before .before .before .if1 .left),
-      tt,
-    )
+returns-5 c = (
+  simp (
+    tests,
+    c .if5 .taken,
+    c .before .if4 .left,
+    c .before .before .if3 .left,
+    c .before .before .before .before .if2 .left,
+    c .before .before .before .before .before .if1 .left,
+  ),
+  tt,
+)
 
--- src/lib.rt:24:1
 returns-6 : tie.Need-returns-6
 unfolding objectOf
-returns-6 c =
-    (
-      simp (tests,
-      c .if5 .left,
-      c .before .if4 .left,
-      c .before .before .if3 .left,
-      c .before .before .before .before .if2 .left,
-      c .before .before .before .before .before .if1 .left),
-      omega arith,
-    )
+returns-6 c = (
+  simp (
+    tests,
+    c .if5 .left,
+    c .before .if4 .left,
+    c .before .before .if3 .left,
+    c .before .before .before .before .if2 .left,
+    c .before .before .before .before .before .if1 .left,
+  ),
+  omega arith,
+)
 
 pub object-at-spec : {M : Type 1} → statement M
 object-at-spec =

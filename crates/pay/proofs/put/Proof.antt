@@ -1,3 +1,4 @@
+-- pay::put: each return by the tests and the calls that led to it.
 use Rattle.machine.proofs.Rules.{tests}
 use native.Mathlib.Omega.{arith}
 use Rattle.machine.specs.Pay.{putOf}
@@ -5,74 +6,61 @@ use Rattle.objects.proofs.Unforwarded.{unforwarded}
 use borrow.Author.Needs.{needs}
 use Rattle.pay.proofs.put.Statement.{statement}
 use Rattle.pay.proofs.put.Tie as tie
-use Rattle.pay.proofs.put.Reads as reads
-use Rattle.pay.proofs.put.Lts as lts
-use Rattle.objects.proofs.copied_word.Reads as copied-word-reads
-use Rattle.objects.proofs.look_at.Reads as look-at-reads
 
--- src/lib.rt:100:9
 look-at-requires : tie.Need-look-at-requires
 look-at-requires c κs = search needs
 
--- src/lib.rt:101:25
 enum-known-seen : tie.Need-enum-known-seen
 enum-known-seen c = search needs
 
--- src/lib.rt:102:9
 same-length : tie.Need-same-length
 same-length c = search needs
 
--- src/lib.rt:102:9
 returns : tie.Need-returns
 unfolding putOf
 returns c = rw (← (c .before .look-at .ensures .0), unforwarded (c .before .look-at .result) (c .match .keys2))
 
--- src/lib.rt:105:9
 same-length-2 : tie.Need-same-length-2
 same-length-2 c = search needs
 
--- src/lib.rt:105:9
 returns-2 : tie.Need-returns-2
 unfolding putOf
 returns-2 c =
-    simp (tests,
+    simp (
+      tests,
       c .if1 .taken,
       c .before .before .seen .given .1,
-      ← (c .before .before .before .before .look-at .ensures .0))
+      ← (c .before .before .before .before .look-at .ensures .0),
+    )
 
--- src/lib.rt:107:9
 copied-word-requires : tie.Need-copied-word-requires
 copied-word-requires c κs = search needs
 
--- src/lib.rt:108:14
 cast-at : tie.Need-cast-at
 cast-at c = search needs
 
--- src/lib.rt:109:11
 add-words : tie.Need-add-words
 add-words c = search needs
 
--- src/lib.rt:109:5
 mul-words : tie.Need-mul-words
 mul-words c = search needs
 
--- src/lib.rt:109:5
 slice-write-words : tie.Need-slice-write-words
 slice-write-words c = let f = rw (c .before .before .before .before .seen .given .1) at (c .before .before .before .before .before .before .look-at .ensures .1) in omega arith
 
--- src/lib.rt:97:1
 same-length-3 : tie.Need-same-length-3
 same-length-3 c = search needs
 
--- src/lib.rt:97:1
 returns-3 : tie.Need-returns-3
 unfolding putOf
 returns-3 c =
-    simp (tests,
+    simp (
+      tests,
       c .before .copied-word .ensures,
       c .before .before .if1 .left,
       c .before .before .before .before .seen .given .1,
-      ← (c .before .before .before .before .before .before .look-at .ensures .0))
+      ← (c .before .before .before .before .before .before .look-at .ensures .0),
+    )
 
 pub put-spec : {M : Type 1} → statement M
 put-spec =

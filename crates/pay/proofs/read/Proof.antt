@@ -1,87 +1,79 @@
+-- pay::read: each return by the tests and the calls that led to it.
 use Rattle.machine.proofs.Rules.{tests}
 use native.Mathlib.Omega.{arith}
 use Rattle.machine.specs.Pay.{readOf}
 use borrow.Author.Needs.{needs}
 use Rattle.pay.proofs.read.Statement.{statement}
 use Rattle.pay.proofs.read.Tie as tie
-use Rattle.pay.proofs.read.Reads as reads
-use Rattle.pay.proofs.read.Lts as lts
-use Rattle.objects.proofs.object_at.Reads as object-at-reads
-use Rattle.pay.proofs.put_ahead.Reads as put-ahead-reads
 
--- src/lib.rt:79:9
 object-at-requires : tie.Need-object-at-requires
 object-at-requires c κs = search needs
 
--- src/lib.rt:80:23
 enum-known-o : tie.Need-enum-known-o
 enum-known-o c = search needs
 
--- src/lib.rt:81:28
 enum-told : tie.Need-enum-told
 enum-told c = search needs
 
--- src/lib.rt:81:9
 returns : tie.Need-returns
 unfolding readOf
 returns c =
-    simp (c .enum-told .given .1,
-      ← (c .before .before .object-at .ensures .0))
+    simp (
+      c .enum-told .given .1,
+      ← (c .before .before .object-at .ensures .0),
+    )
 
--- src/lib.rt:84:9
 returns-2 : tie.Need-returns-2
 unfolding readOf
 returns-2 c =
-    simp (tests,
+    simp (
+      tests,
       c .if1 .taken,
       c .before .before .o .given .1,
-      ← (c .before .before .before .before .object-at .ensures .0))
+      ← (c .before .before .before .before .object-at .ensures .0),
+    )
 
--- src/lib.rt:86:14
 cast-at : tie.Need-cast-at
 cast-at c = search needs
 
--- src/lib.rt:87:19
 add-w : tie.Need-add-w
 add-w c = search needs
 
--- src/lib.rt:87:13
 mul-w : tie.Need-mul-w
 mul-w c = search needs
 
--- src/lib.rt:87:13
 shared-slice-read-w : tie.Need-shared-slice-read-w
 shared-slice-read-w c = let f = rw (c .before .before .before .before .o .given .1) at (c .before .before .before .before .before .before .object-at .ensures .1) in omega arith
 
--- src/lib.rt:89:13
 put-ahead-requires : tie.Need-put-ahead-requires
 put-ahead-requires c κs = search needs
 
--- src/lib.rt:90:9
 returns-3 : tie.Need-returns-3
 unfolding readOf
 returns-3 c =
-    simp (tests,
+    simp (
+      tests,
       c .put-ahead .ensures,
       c .before .if2 .taken,
       c .before .before .before .before .if1 .left,
       c .before .before .before .before .before .before .o .given .1,
-      ← (c .before .before .before .before .before .before .before .before .object-at .ensures .0))
+      ← (c .before .before .before .before .before .before .before .before .object-at .ensures .0),
+    )
 
--- src/lib.rt:92:9
 put-ahead-requires-2 : tie.Need-put-ahead-requires-2
 put-ahead-requires-2 c κs = search needs
 
--- src/lib.rt:76:1
 returns-4 : tie.Need-returns-4
 unfolding readOf
 returns-4 c =
-    simp (tests,
+    simp (
+      tests,
       c .put-ahead2 .ensures,
       c .before .if2 .left,
       c .before .before .before .before .if1 .left,
       c .before .before .before .before .before .before .o .given .1,
-      ← (c .before .before .before .before .before .before .before .before .object-at .ensures .0))
+      ← (c .before .before .before .before .before .before .before .before .object-at .ensures .0),
+    )
 
 pub read-spec : {M : Type 1} → statement M
 read-spec =

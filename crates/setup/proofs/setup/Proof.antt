@@ -1,53 +1,45 @@
+-- setup::setup: each return by the tests and the calls that led to it.
 use Rattle.machine.proofs.Rules.{tests}
 use Rattle.machine.specs.Setup.{setupOf}
 use borrow.Author.Needs.{needs}
 use Rattle.setup.proofs.setup.Statement.{statement}
 use Rattle.setup.proofs.setup.Tie as tie
-use Rattle.setup.proofs.setup.Reads as reads
-use Rattle.setup.proofs.setup.Lts as lts
-use Rattle.entries.proofs.refused.Reads as refused-reads
-use Rattle.gates.proofs.sizes_ok.Reads as sizes-ok-reads
-use Rattle.setup.proofs.clear.Reads as clear-reads
-use Rattle.setup.proofs.fresh.Reads as fresh-reads
 
--- src/lib.rt:84:9
 sizes-ok-requires : tie.Need-sizes-ok-requires
 sizes-ok-requires c κs = search needs
 
--- src/lib.rt:86:9
 clear-requires : tie.Need-clear-requires
 clear-requires c κs = search needs
 
--- src/lib.rt:87:13
 fresh-requires : tie.Need-fresh-requires
 fresh-requires c κs = (rw (c .before .before .before .before .if1 .taken) at (c .before .before .before .before .before .sizes-ok .ensures .1)) .limited .h-high
 
--- src/lib.rt:88:9
 same-length : tie.Need-same-length
 same-length c = search needs
 
--- src/lib.rt:88:9
 returns : tie.Need-returns
 unfolding setupOf
 returns c =
-    simp (tests,
+    simp (
+      tests,
       c .fresh .ensures,
       c .before .before .before .clear .ensures,
       c .before .before .before .before .before .if1 .taken,
-      ← (c .before .before .before .before .before .before .sizes-ok .ensures .0))
+      ← (c .before .before .before .before .before .before .sizes-ok .ensures .0),
+    )
 
--- src/lib.rt:93:5
 refused-requires : tie.Need-refused-requires
 refused-requires c κs = search needs
 
--- src/lib.rt:75:1
 returns-2 : tie.Need-returns-2
 unfolding setupOf
 returns-2 c =
-    simp (tests,
+    simp (
+      tests,
       c .refused .ensures,
       c .before .if1 .left,
-      ← (c .before .before .sizes-ok .ensures .0))
+      ← (c .before .before .sizes-ok .ensures .0),
+    )
 
 pub setup-spec : {M : Type 1} → statement M
 setup-spec =

@@ -1,70 +1,57 @@
-
+-- tasks::claim_is: each return by the tests and the calls that led to it.
 use borrow.Author.Needs.{needs}
 use Rattle.tasks.proofs.claim_is.Statement.{statement}
 use Rattle.tasks.proofs.claim_is.Tie as tie
-use Rattle.tasks.proofs.claim_is.Reads as reads
-use Rattle.tasks.proofs.claim_is.Lts as lts
-use Rattle.tasks.proofs.same_object.Reads as same-object-reads
 
--- src/lib.rt:159:27
 enum-told : tie.Need-enum-told
 enum-told c = search needs
 
--- src/lib.rt:160:26
 enum-told-2 : tie.Need-enum-told-2
 enum-told-2 c = search needs
 
--- src/lib.rt:161:26
 enum-told-3 : tie.Need-enum-told-3
 enum-told-3 c = search needs
 
--- src/lib.rt:162:31
 enum-told-4 : tie.Need-enum-told-4
 enum-told-4 c = search needs
 
--- src/lib.rt:163:24
 enum-known-h : tie.Need-enum-known-h
 enum-known-h c = search needs
 
--- src/lib.rt:163:30
 same-object-requires : tie.Need-same-object-requires
 same-object-requires c κs = search needs
 
--- src/lib.rt:164:23
 enum-known-h-2 : tie.Need-enum-known-h-2
 enum-known-h-2 c = search needs
 
--- src/lib.rt:164:35
 same-object-requires-2 : tie.Need-same-object-requires-2
 same-object-requires-2 c κs = search needs
 
--- src/lib.rt:155:1
 returns : tie.Need-returns
 returns c = search needs
 
--- src/lib.rt:155:1
 returns-2 : tie.Need-returns-2
 returns-2 c = search needs
 
--- src/lib.rt:155:1
 returns-3 : tie.Need-returns-3
 returns-3 c = search needs
 
--- src/lib.rt:155:1
 returns-4 : tie.Need-returns-4
 returns-4 c = search needs
 
--- src/lib.rt:155:1
 returns-5 : tie.Need-returns-5
 returns-5 c =
-    simp (c .same-object .ensures,
-      c .before .before .h .given .1)
+    simp (
+      c .same-object .ensures,
+      c .before .before .h .given .1,
+    )
 
--- src/lib.rt:155:1
 returns-6 : tie.Need-returns-6
 returns-6 c =
-    simp (c .same-object2 .ensures,
-      c .before .before .h2 .given .1)
+    simp (
+      c .same-object2 .ensures,
+      c .before .before .h2 .given .1,
+    )
 
 pub claim-is-spec : {M : Type 1} → statement M
 claim-is-spec =

@@ -1,52 +1,49 @@
+-- tasks::held: each return by the tests and the calls that led to it.
 use Rattle.machine.proofs.Rules.{tests}
 use Rattle.machine.specs.Tasks.{heldOf}
 use Rattle.machine.specs.Tasks.{closingOf}
 use borrow.Author.Needs.{needs}
 use Rattle.tasks.proofs.held.Statement.{statement}
 use Rattle.tasks.proofs.held.Tie as tie
-use Rattle.tasks.proofs.held.Reads as reads
-use Rattle.tasks.proofs.held.Lts as lts
-use Rattle.tasks.proofs.any.Reads as any-reads
-use Rattle.tasks.proofs.grey.Reads as grey-reads
 
--- src/lib.rt:308:13
 grey-requires : tie.Need-grey-requires
 grey-requires c κs = search needs
 
--- src/lib.rt:310:13
 returns : tie.Need-returns
 unfolding heldOf closingOf
 returns c =
-    simp (tests,
+    simp (
+      tests,
       c .if2 .taken,
       ← (c .before .grey .ensures),
-      c .before .before .if1 .taken)
+      c .before .before .if1 .taken,
+    )
 
--- src/lib.rt:312:9
 any-requires : tie.Need-any-requires
 any-requires c κs = search needs
 
--- src/lib.rt:312:9
 returns-2 : tie.Need-returns-2
 unfolding heldOf closingOf
 returns-2 c =
-    simp (tests,
+    simp (
+      tests,
       c .any .ensures,
       c .before .if2 .left,
       ← (c .before .before .grey .ensures),
-      c .before .before .before .if1 .taken)
+      c .before .before .before .if1 .taken,
+    )
 
--- src/lib.rt:314:5
 any-requires-2 : tie.Need-any-requires-2
 any-requires-2 c κs = search needs
 
--- src/lib.rt:303:1
 returns-3 : tie.Need-returns-3
 unfolding heldOf closingOf
 returns-3 c =
-    simp (tests,
+    simp (
+      tests,
       c .any2 .ensures,
-      c .before .if1 .left)
+      c .before .if1 .left,
+    )
 
 pub held-spec : {M : Type 1} → statement M
 held-spec =

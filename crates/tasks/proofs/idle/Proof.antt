@@ -1,74 +1,70 @@
-
+-- tasks::idle: each return by the tests and the calls that led to it.
 use borrow.Author.Needs.{needs}
 use Rattle.tasks.proofs.idle.Statement.{statement}
 use Rattle.tasks.proofs.idle.Tie as tie
-use Rattle.tasks.proofs.idle.Reads as reads
-use Rattle.tasks.proofs.idle.Lts as lts
-use Rattle.tasks.proofs.holding.Reads as holding-reads
 
--- src/lib.rt:65:9
 holding-requires : tie.Need-holding-requires
 holding-requires c κs = search needs
 
--- src/lib.rt:67:27
 enum-told : tie.Need-enum-told
 enum-told c = search needs
 
--- src/lib.rt:68:26
 enum-told-2 : tie.Need-enum-told-2
 enum-told-2 c = search needs
 
--- src/lib.rt:69:26
 enum-told-3 : tie.Need-enum-told-3
 enum-told-3 c = search needs
 
--- src/lib.rt:70:31
 enum-told-4 : tie.Need-enum-told-4
 enum-told-4 c = search needs
 
--- src/lib.rt:71:30
 enum-told-5 : tie.Need-enum-told-5
 enum-told-5 c = search needs
 
--- src/lib.rt:72:35
 enum-told-6 : tie.Need-enum-told-6
 enum-told-6 c = search needs
 
--- src/lib.rt:62:1
 returns : tie.Need-returns
 returns c =
-    simp (c .enum-told .given .1,
-      ← (c .before .before .holding .ensures))
+    simp (
+      c .enum-told .given .1,
+      ← (c .before .before .holding .ensures),
+    )
 
--- src/lib.rt:62:1
 returns-2 : tie.Need-returns-2
 returns-2 c =
-    simp (c .enum-told2 .given .1,
-      ← (c .before .before .holding .ensures))
+    simp (
+      c .enum-told2 .given .1,
+      ← (c .before .before .holding .ensures),
+    )
 
--- src/lib.rt:62:1
 returns-3 : tie.Need-returns-3
 returns-3 c =
-    simp (c .enum-told3 .given .1,
-      ← (c .before .before .holding .ensures))
+    simp (
+      c .enum-told3 .given .1,
+      ← (c .before .before .holding .ensures),
+    )
 
--- src/lib.rt:62:1
 returns-4 : tie.Need-returns-4
 returns-4 c =
-    simp (c .enum-told4 .given .1,
-      ← (c .before .before .holding .ensures))
+    simp (
+      c .enum-told4 .given .1,
+      ← (c .before .before .holding .ensures),
+    )
 
--- src/lib.rt:62:1
 returns-5 : tie.Need-returns-5
 returns-5 c =
-    simp (c .enum-told5 .given .1,
-      ← (c .before .before .holding .ensures))
+    simp (
+      c .enum-told5 .given .1,
+      ← (c .before .before .holding .ensures),
+    )
 
--- src/lib.rt:62:1
 returns-6 : tie.Need-returns-6
 returns-6 c =
-    simp (c .enum-told6 .given .1,
-      ← (c .before .before .holding .ensures))
+    simp (
+      c .enum-told6 .given .1,
+      ← (c .before .before .holding .ensures),
+    )
 
 pub idle-spec : {M : Type 1} → statement M
 idle-spec =

@@ -1,42 +1,32 @@
-
+-- tasks::place_holds: each return by the tests and the calls that led to it.
 use borrow.Author.Needs.{needs}
 use Rattle.tasks.proofs.place_holds.Statement.{statement}
 use Rattle.tasks.proofs.place_holds.Tie as tie
-use Rattle.tasks.proofs.place_holds.Reads as reads
-use Rattle.tasks.proofs.place_holds.Lts as lts
 
--- src/lib.rt:33:29
 enum-told : tie.Need-enum-told
 enum-told c = search needs
 
--- src/lib.rt:34:30
 enum-told-2 : tie.Need-enum-told-2
 enum-told-2 c = search needs
 
--- src/lib.rt:35:29
 enum-told-3 : tie.Need-enum-told-3
 enum-told-3 c = search needs
 
--- src/lib.rt:36:24
 enum-known-t : tie.Need-enum-known-t
 enum-known-t c = search needs
 
--- src/lib.rt:29:1
 returns : tie.Need-returns
 returns c =
     simp (c .enum-told .given .1)
 
--- src/lib.rt:29:1
 returns-2 : tie.Need-returns-2
 returns-2 c =
     simp (c .enum-told2 .given .1)
 
--- src/lib.rt:29:1
 returns-3 : tie.Need-returns-3
 returns-3 c =
     simp (c .enum-told3 .given .1)
 
--- src/lib.rt:29:1
 returns-4 : tie.Need-returns-4
 returns-4 c =
     simp (c .before .t .given .1)

@@ -1,3 +1,4 @@
+-- tasks::seek: the loop by its invariant; each return by the tests and the calls that led to it.
 use native.Mathlib.Omega.{arith}
 use borrow.Author.Needs.{needs}
 use Rattle.machine.specs.Tasks.{seekOf}
@@ -10,9 +11,6 @@ use mathlib.Core.Path.{refl}
 use Rattle.machine.specs.Tasks.{soughtTask}
 use Rattle.tasks.proofs.seek.Statement.{statement}
 use Rattle.tasks.proofs.seek.Tie as tie
-use Rattle.tasks.proofs.seek.Reads as reads
-use Rattle.tasks.proofs.seek.Lts as lts
-use Rattle.tasks.proofs.task_sought.Reads as task-sought-reads
 
 abbrev Inv-loop : tie.InvT-loop
 Inv-loop p w tasks i₀ i = Seeking (soughtTask w) tasks p i
@@ -20,48 +18,37 @@ Inv-loop p w tasks i₀ i = Seeking (soughtTask w) tasks p i
 abbrev μ-loop : tie.MeasureT-loop
 μ-loop p w tasks i₀ i = p - i
 
--- src/lib.rt:229:5
 loop-holds : tie.Need-loop-holds Inv-loop μ-loop
 loop-holds c = record { low = search needs; all = search needs; so = refl }
 
--- src/lib.rt:233:17
 mul-e : tie.Need-mul-e Inv-loop μ-loop
 mul-e c = search needs
 
--- src/lib.rt:233:17
 array-copy-out-e : tie.Need-array-copy-out-e Inv-loop μ-loop
 array-copy-out-e c = search needs
 
--- src/lib.rt:234:32
 cast-task-sought : tie.Need-cast-task-sought Inv-loop μ-loop
 cast-task-sought c = search needs
 
--- src/lib.rt:234:13
 task-sought-requires : tie.Need-task-sought-requires Inv-loop μ-loop
 task-sought-requires c κs = search needs
 
--- src/lib.rt:236:29
 cast-t15 : tie.Need-cast-t15 Inv-loop μ-loop
 cast-t15 c = search needs
 
--- src/lib.rt:238:13
 add-i : tie.Need-add-i Inv-loop μ-loop
 add-i c = search needs
 
--- src/lib.rt:229:5
 loop-less : tie.Need-loop-less Inv-loop μ-loop
 loop-less c = search needs
 
--- src/lib.rt:229:5
 loop-again : tie.Need-loop-again Inv-loop μ-loop
 loop-again c = passed (c .before .before .before .before .loop .inv) (omega arith) (c .before .task-sought .ensures) (c .if2 .left)
 
--- src/lib.rt:224:1
 returns : tie.Need-returns Inv-loop μ-loop
 unfolding seekOf
 returns c = nobody (c .before .loop .inv) (c .if1 .taken)
 
--- src/lib.rt:224:1
 returns-2 : tie.Need-returns-2 Inv-loop μ-loop
 unfolding seekOf
 returns-2 c = found (c .before .before .before .before .loop .inv) (omega arith) (c .before .task-sought .ensures) (c .if2 .taken)

@@ -1,3 +1,4 @@
+-- tasks::slot_taken: the loop by its invariant; each return by the tests and the calls that led to it.
 use native.Mathlib.Omega.{arith}
 use borrow.Author.Needs.{needs}
 use Rattle.machine.specs.Tasks.{slotTaken}
@@ -11,9 +12,6 @@ use Rattle.machine.specs.Tasks.{storeThere}
 use Rattle.machine.specs.Tasks.{isFound}
 use Rattle.tasks.proofs.slot_taken.Statement.{statement}
 use Rattle.tasks.proofs.slot_taken.Tie as tie
-use Rattle.tasks.proofs.slot_taken.Reads as reads
-use Rattle.tasks.proofs.slot_taken.Lts as lts
-use Rattle.tasks.proofs.store_there.Reads as store-there-reads
 
 abbrev Inv-loop : tie.InvT-loop
 Inv-loop p me y k tasks i₀ i = Seeking (storeThere me y k) tasks p i
@@ -21,44 +19,34 @@ Inv-loop p me y k tasks i₀ i = Seeking (storeThere me y k) tasks p i
 abbrev μ-loop : tie.MeasureT-loop
 μ-loop p me y k tasks i₀ i = p - i
 
--- src/lib.rt:273:5
 loop-holds : tie.Need-loop-holds Inv-loop μ-loop
 loop-holds c = record { low = search needs; all = search needs; so = refl }
 
--- src/lib.rt:277:17
 mul-e : tie.Need-mul-e Inv-loop μ-loop
 mul-e c = search needs
 
--- src/lib.rt:277:17
 array-copy-out-e : tie.Need-array-copy-out-e Inv-loop μ-loop
 array-copy-out-e c = search needs
 
--- src/lib.rt:278:39
 cast-store-there : tie.Need-cast-store-there Inv-loop μ-loop
 cast-store-there c = search needs
 
--- src/lib.rt:278:13
 store-there-requires : tie.Need-store-there-requires Inv-loop μ-loop
 store-there-requires c κs = search needs
 
--- src/lib.rt:282:13
 add-i : tie.Need-add-i Inv-loop μ-loop
 add-i c = search needs
 
--- src/lib.rt:273:5
 loop-less : tie.Need-loop-less Inv-loop μ-loop
 loop-less c = search needs
 
--- src/lib.rt:273:5
 loop-again : tie.Need-loop-again Inv-loop μ-loop
 loop-again c = passed (c .before .before .before .before .loop .inv) (omega arith) (c .before .store-there .ensures) (c .if2 .left)
 
--- src/lib.rt:268:1
 returns : tie.Need-returns Inv-loop μ-loop
 unfolding slotTaken
 returns c = ap isFound (nobody (c .before .loop .inv) (c .if1 .taken))
 
--- src/lib.rt:268:1
 returns-2 : tie.Need-returns-2 Inv-loop μ-loop
 unfolding slotTaken
 returns-2 c = ap isFound (found (c .before .before .before .before .loop .inv) (omega arith) (c .before .store-there .ensures) (c .if2 .taken))

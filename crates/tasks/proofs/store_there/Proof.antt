@@ -1,43 +1,41 @@
+-- tasks::store_there: each return by the tests and the calls that led to it.
 use Rattle.machine.proofs.Rules.{tests}
 use borrow.Author.Needs.{needs}
 use Rattle.tasks.proofs.store_there.Statement.{statement}
 use Rattle.tasks.proofs.store_there.Tie as tie
-use Rattle.tasks.proofs.store_there.Reads as reads
-use Rattle.tasks.proofs.store_there.Lts as lts
-use Rattle.tasks.proofs.same_slot.Reads as same-slot-reads
 
--- src/lib.rt:258:9
 returns : tie.Need-returns
 returns c =
-    simp (tests,
-      c .if1 .taken)
+    simp (
+      tests,
+      c .if1 .taken,
+    )
 
--- src/lib.rt:262:29
 enum-told : tie.Need-enum-told
 enum-told c = search needs
 
--- src/lib.rt:263:23
 enum-known-s : tie.Need-enum-known-s
 enum-known-s c = search needs
 
--- src/lib.rt:263:32
 same-slot-requires : tie.Need-same-slot-requires
 same-slot-requires c κs = search needs
 
--- src/lib.rt:254:1
 returns-2 : tie.Need-returns-2
 returns-2 c =
-    simp (tests,
+    simp (
+      tests,
       c .enum-told .given .1,
-      c .before .before .if1 .left)
+      c .before .before .if1 .left,
+    )
 
--- src/lib.rt:254:1
 returns-3 : tie.Need-returns-3
 returns-3 c =
-    simp (tests,
+    simp (
+      tests,
       c .same-slot .ensures,
       c .before .before .s .given .1,
-      c .before .before .before .before .if1 .left)
+      c .before .before .before .before .if1 .left,
+    )
 
 pub store-there-spec : {M : Type 1} → statement M
 store-there-spec =

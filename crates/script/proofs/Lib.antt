@@ -1,0 +1,5 @@
+pub mod Scan
+pub mod Fields
+pub mod Names
+pub mod Whole
+pub mod Put

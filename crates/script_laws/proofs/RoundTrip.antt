@@ -1,0 +1,72 @@
+-- What is written for a call is read back as that call.
+use Prim.Native.Nat.{ℕ}
+use Prim.Native.String.{String}
+use native.Mathlib.Omega.{arith}
+use mathlib.Core.Path.{_≡_, refl, ap, _∙_}
+use mathlib.Core.List.{List, [], _∷_, _++_, append-nil, map}
+use mathlib.Core.Bool.{true}
+use Rattle.machine.specs.Call.{Call, New, Fill, FillPointer, Load, Store, StorePointer, Move, Clear, Same, Put, Get, Step, Report}
+use Rattle.script.specs.Line.{fields, numbers, fieldNumbers, ascii, nameIs, recordBy, lineOf, defaultRate}
+use Rattle.script.specs.Text.{decimal}
+use Rattle.script.specs.declared.Said.the-variants as said
+use Rattle.script_laws.specs.Calls.{tabbed, recordFor, Small, nameFor, numbersFor, lineFor, saidFor, setupLine, shortSetupLine}
+use Rattle.script_laws.specs.Lines.{lacks}
+use Rattle.script_laws.proofs.Digits.{reads-back}
+use Rattle.script_laws.proofs.Lacks.{lacks-first, decimal-lacks}
+
+-- ---- fields
+
+last-field : (f : List ℕ) → lacks 9 f ≡ true → fields f ≡ f ∷ []
+unfolding fields
+last-field [] h = refl
+last-field (b ∷ f) h =
+    let l = lacks-first 9 b f h in
+    simp (l .0, last-field f (l .1))
+
+field-tab : (f s : List ℕ) → lacks 9 f ≡ true → fields (f ++ (9 ∷ s)) ≡ f ∷ fields s
+unfolding fields
+field-tab [] s h = refl
+field-tab (b ∷ f) s h =
+    let l = lacks-first 9 b f h in
+    simp (l .0, field-tab f s (l .1))
+
+fields-of : (f : List ℕ) (ns : List ℕ) → lacks 9 f ≡ true → fields (f ++ tabbed ns) ≡ f ∷ map decimal ns
+unfolding tabbed
+fields-of f [] h = ap fields (append-nil f) ∙ last-field f h
+fields-of f (n ∷ ns) h =
+    field-tab f (decimal n ++ tabbed ns) h ∙ ap (λ (fs : List (List ℕ)). f ∷ fs) (fields-of (decimal n) ns (decimal-lacks 9 n (omega arith)))
+
+numbers-of : (ns : List ℕ) → Small ns → fieldNumbers (map decimal ns) ≡ numbers ns
+unfolding fieldNumbers
+numbers-of [] h = refl
+numbers-of (n ∷ ns) h = simp (reads-back n (h .0), numbers-of ns (h .1))
+
+-- ---- records, calls and set-up
+
+pub line-back : (name : String) (ns : List ℕ) → lacks 9 (ascii name) ≡ true → Small ns → lineOf (recordFor name ns) ≡ recordBy (nameIs (ascii name)) ns
+unfolding lineOf
+line-back name ns h k = simp (fields-of (ascii name) ns h, numbers-of ns k)
+
+pub call-back : (c : Call) → Small (numbersFor c) → lineOf (lineFor c) ≡ saidFor c
+unfolding recordBy
+call-back (New task register len m) h = line-back (nameFor (New task register len m)) (task ∷ register ∷ len ∷ m ∷ []) refl h
+call-back (Fill task word) h = line-back (nameFor (Fill task word)) (task ∷ word ∷ []) refl h
+call-back (FillPointer task register) h = line-back (nameFor (FillPointer task register)) (task ∷ register ∷ []) refl h
+call-back (Load task to from slot) h = line-back (nameFor (Load task to from slot)) (task ∷ to ∷ from ∷ slot ∷ []) refl h
+call-back (Store task object slot word) h = line-back (nameFor (Store task object slot word)) (task ∷ object ∷ slot ∷ word ∷ []) refl h
+call-back (StorePointer task object slot register) h = line-back (nameFor (StorePointer task object slot register)) (task ∷ object ∷ slot ∷ register ∷ []) refl h
+call-back (Move task to from) h = line-back (nameFor (Move task to from)) (task ∷ to ∷ from ∷ []) refl h
+call-back (Clear task register) h = line-back (nameFor (Clear task register)) (task ∷ register ∷ []) refl h
+call-back (Same task a b) h = line-back (nameFor (Same task a b)) (task ∷ a ∷ b ∷ []) refl h
+call-back (Put task root register) h = line-back (nameFor (Put task root register)) (task ∷ root ∷ register ∷ []) refl h
+call-back (Get task register root) h = line-back (nameFor (Get task register root)) (task ∷ register ∷ root ∷ []) refl h
+call-back (Step task) h = line-back (nameFor (Step task)) (task ∷ []) refl h
+call-back Report h = line-back (nameFor Report) [] refl h
+
+pub setup-back : (p s h k : ℕ) → Small (p ∷ s ∷ h ∷ k ∷ []) → lineOf (setupLine p s h k) ≡ said.Setup p s h k
+unfolding recordBy
+setup-back p s h k l = line-back "setup" (p ∷ s ∷ h ∷ k ∷ []) refl l
+
+pub setup-default-back : (p s h : ℕ) → Small (p ∷ s ∷ h ∷ []) → lineOf (shortSetupLine p s h) ≡ said.Setup p s h defaultRate
+unfolding recordBy
+setup-default-back p s h l = line-back "setup" (p ∷ s ∷ h ∷ []) refl l

@@ -25,3 +25,6 @@ pub mod Examples
 pub mod SelfPointing
 pub mod Faults
 pub mod Outcomes
+pub mod StillStore
+pub mod Kinds
+pub mod StillRun

@@ -7,6 +7,7 @@ ghost use Rattle.machine.specs.Numbers.{numberOf};
 ghost use Rattle.script.specs.Text.{decimal, newline, modeText, reportText, wrote, written};
 use table::Refusal;
 
+// 01's number of a refusal.
 pub fn number_of(x: Refusal) -> u32
     ensures { λ r. ⌜ r ≡ numberOf x ⌝ }
 {
@@ -66,6 +67,7 @@ pub fn put_with(word: &[u8], n: u32, out: &mut [u8], at: usize) -> usize
     put_text(b"\n", out, e)
 }
 
+// Puts the word of a report and its mode, each with its tab.
 fn put_mode(on: bool, out: &mut [u8], at: usize) -> usize
     requires { ⌜ at + 11 ≤ length (now out) ⌝ }
     ensures { λ r. ⌜ wrote r (now (out .exit)) ≡ written (modeText on) (now (out .entry)) at ⌝ }

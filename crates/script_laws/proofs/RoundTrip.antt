@@ -47,21 +47,24 @@ pub line-back : (name : String) (ns : List ℕ) → lacks 9 (ascii name) ≡ tru
 unfolding lineOf
 line-back name ns h k = simp (fields-of (ascii name) ns h, numbers-of ns k)
 
+back : (c : Call) → lacks 9 (ascii (nameFor c)) ≡ true → Small (numbersFor c) → recordBy (nameIs (ascii (nameFor c))) (numbersFor c) ≡ saidFor c → lineOf (lineFor c) ≡ saidFor c
+back c l h e = line-back (nameFor c) (numbersFor c) l h ∙ e
+
 pub call-back : (c : Call) → Small (numbersFor c) → lineOf (lineFor c) ≡ saidFor c
 unfolding recordBy
-call-back (New task register len m) h = line-back (nameFor (New task register len m)) (task ∷ register ∷ len ∷ m ∷ []) refl h
-call-back (Fill task word) h = line-back (nameFor (Fill task word)) (task ∷ word ∷ []) refl h
-call-back (FillPointer task register) h = line-back (nameFor (FillPointer task register)) (task ∷ register ∷ []) refl h
-call-back (Load task to from slot) h = line-back (nameFor (Load task to from slot)) (task ∷ to ∷ from ∷ slot ∷ []) refl h
-call-back (Store task object slot word) h = line-back (nameFor (Store task object slot word)) (task ∷ object ∷ slot ∷ word ∷ []) refl h
-call-back (StorePointer task object slot register) h = line-back (nameFor (StorePointer task object slot register)) (task ∷ object ∷ slot ∷ register ∷ []) refl h
-call-back (Move task to from) h = line-back (nameFor (Move task to from)) (task ∷ to ∷ from ∷ []) refl h
-call-back (Clear task register) h = line-back (nameFor (Clear task register)) (task ∷ register ∷ []) refl h
-call-back (Same task a b) h = line-back (nameFor (Same task a b)) (task ∷ a ∷ b ∷ []) refl h
-call-back (Put task root register) h = line-back (nameFor (Put task root register)) (task ∷ root ∷ register ∷ []) refl h
-call-back (Get task register root) h = line-back (nameFor (Get task register root)) (task ∷ register ∷ root ∷ []) refl h
-call-back (Step task) h = line-back (nameFor (Step task)) (task ∷ []) refl h
-call-back Report h = line-back (nameFor Report) [] refl h
+call-back (New task register len m) h = back (New task register len m) refl h refl
+call-back (Fill task word) h = back (Fill task word) refl h refl
+call-back (FillPointer task register) h = back (FillPointer task register) refl h refl
+call-back (Load task to from slot) h = back (Load task to from slot) refl h refl
+call-back (Store task object slot word) h = back (Store task object slot word) refl h refl
+call-back (StorePointer task object slot register) h = back (StorePointer task object slot register) refl h refl
+call-back (Move task to from) h = back (Move task to from) refl h refl
+call-back (Clear task register) h = back (Clear task register) refl h refl
+call-back (Same task a b) h = back (Same task a b) refl h refl
+call-back (Put task root register) h = back (Put task root register) refl h refl
+call-back (Get task register root) h = back (Get task register root) refl h refl
+call-back (Step task) h = back (Step task) refl h refl
+call-back Report h = back Report refl h refl
 
 pub setup-back : (p s h k : ℕ) → Small (p ∷ s ∷ h ∷ k ∷ []) → lineOf (setupLine p s h k) ≡ said.Setup p s h k
 unfolding recordBy

@@ -1,4 +1,4 @@
--- Rests on `unreadableText`.
+-- Rests on `unreadableText`: the text put is that one.
 use native.Mathlib.Omega.{arith}
 use borrow.Author.Needs.{needs}
 use Rattle.script.specs.Text.{unreadableText}

@@ -28,3 +28,6 @@ pub mod Outcomes
 pub mod StillStore
 pub mod Kinds
 pub mod StillRun
+pub mod Objects
+pub mod Agree
+pub mod Promises

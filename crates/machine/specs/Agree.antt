@@ -1,0 +1,3 @@
+pub mod Encode
+pub mod Mem
+pub mod Agree

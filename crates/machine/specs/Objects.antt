@@ -1,0 +1,4 @@
+pub mod Base
+pub mod State
+pub mod Inv
+pub mod Ops

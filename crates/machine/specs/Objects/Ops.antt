@@ -93,7 +93,8 @@ foundIn o roots = record { n = o .shape .n; fill = o .shape .fill; slots = o .pr
 abbrev pub flips : State → List ℕ → (ℕ → Task) → State
 flips o roots tasks = state (o .shape) (o .prim) (o .rep) (o .has) (o .hd) (o .stack) tasks (o .roots) true (foundIn o roots)
 
--- the switch-over: every object white again
+-- the switch-over: every object white again, and no slot written but those filled
 abbrev pub switches : State → State
 switches o =
-    state (o .shape) (o .prim) (o .rep) (o .has) (upd (λ x. white) 0 (count 0)) [] (o .tasks) (o .roots) false (o .snap)
+    state (shapeOf (o .shape .n) (o .shape .len) (o .shape .ptr) (o .shape .fill) (o .shape .fill)) (o .prim) (o .rep) (o .has) (upd (λ x. white) 0 (count 0)) []
+    (o .tasks) (o .roots) false (o .snap)

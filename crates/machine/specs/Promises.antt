@@ -1,1 +1,3 @@
 pub mod Still
+pub mod StillLaws
+pub mod StillSteps

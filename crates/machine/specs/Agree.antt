@@ -1,3 +1,15 @@
 pub mod Encode
 pub mod Mem
 pub mod Agree
+pub mod Apart
+pub mod Midway
+pub mod Twin
+pub mod Enter
+pub mod Heads
+pub mod Gates
+pub mod Names
+pub mod Read
+pub mod Spaces
+pub mod MidwayRead
+pub mod PlaceStep
+pub mod Complete

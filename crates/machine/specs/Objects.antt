@@ -4,3 +4,8 @@ pub mod Inv
 pub mod Ops
 pub mod Keep
 pub mod Late
+pub mod FlipInv
+pub mod Flipped
+pub mod MoveLaws
+pub mod Final
+pub mod SwitchInv

@@ -1,3 +1,6 @@
 pub mod Still
 pub mod StillLaws
 pub mod StillSteps
+pub mod Good
+pub mod Doing
+pub mod Completes

@@ -13,3 +13,14 @@ pub mod Spaces
 pub mod MidwayRead
 pub mod PlaceStep
 pub mod Complete
+pub mod Rows
+pub mod SwitchWords
+pub mod Slots
+pub mod Holdings
+pub mod Lowest
+pub mod Search
+pub mod Readied
+pub mod Block
+pub mod Make
+pub mod Older
+pub mod Regs

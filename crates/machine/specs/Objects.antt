@@ -9,3 +9,11 @@ pub mod Flipped
 pub mod MoveLaws
 pub mod Final
 pub mod SwitchInv
+pub mod SlotLaws
+pub mod StoreSteps
+pub mod HeadLaws
+pub mod HeadSteps
+pub mod PaySteps
+pub mod Ended
+pub mod FillLaws
+pub mod FillSteps

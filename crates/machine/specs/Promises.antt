@@ -4,3 +4,6 @@ pub mod StillSteps
 pub mod Good
 pub mod Doing
 pub mod Completes
+pub mod Glue
+pub mod Stores
+pub mod Looks

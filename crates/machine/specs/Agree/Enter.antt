@@ -1,7 +1,6 @@
 -- A table with one entry and the marks changed: the machine's tables have this form, and what shows that it agrees.
 use Prim.Native.Nat.{ℕ, zero, suc, _+_, _-_, _*_, _≤_, _<_}
 use mathlib.Core.Path.{_≡_, refl, ap, sym, _∙_}
-use mathlib.Core.Logic.{_≢_}
 use mathlib.Core.List.{List, [], _∷_, map}
 use mathlib.Core.Bool.{Bool, true, false}
 use native.Mathlib.Decide.{ℕ-discrete}
@@ -22,7 +21,6 @@ use Rattle.machine.specs.Basics.{pick}
 use Rattle.machine.specs.Words.{bottomOf, endOf}
 use Rattle.machine.specs.Entries.{entry, table, marksAt, noTask, taskAt, withTask, withPlace, movedTable, withRegister}
 use Rattle.machine.specs.Tasks.{holdingOf}
-use Rattle.machine.specs.Bounds.{Sized}
 use Rattle.machine.specs.Switch.{endedEntry, endedTable}
 use Rattle.machine.specs.Objects.Base.{upd, upd-same, upd-other, sumTo, sumTo-at, sumTo-part}
 use Rattle.machine.specs.Objects.State.{Hd, Shape, State, owes, jobsIn}
@@ -30,7 +28,7 @@ use Rattle.machine.specs.Objects.Inv.{Inv}
 use Rattle.machine.specs.Objects.Ops.{state, goes, goesWith, moves}
 use Rattle.machine.specs.Agree.Encode.{atPrimary, atPending, atPlace, atTask}
 use Rattle.machine.specs.Agree.Mem.{Holds}
-use Rattle.machine.specs.Agree.Agree.{addr, Ok, content, Lay, bottom, end, Marked, Agree}
+use Rattle.machine.specs.Agree.Agree.{addr, Ok, content, Lay, bottom, end, Agree}
 
 abbrev pub entered : Table → Marks → ℕ → Task → Table
 entered t m i e = table (t .limits) (t .upper) (t .on) m (t .life) (t .roots) (set (t .tasks) i e)

@@ -1,18 +1,22 @@
 -- The flip by objects: the heap while the roots are given replicas one by one, and the invariant when all have theirs.
-use Prim.Native.Nat.{ℕ, _<_}
+use Prim.Native.Nat.{ℕ, _≤_, _<_}
 use mathlib.Core.Path.{_≡_, refl, ap, sym, _∙_}
 use mathlib.Core.Logic.{_≢_, _⊎_, inl, inr}
 use mathlib.Core.List.{List, [], _∷_}
 use mathlib.Core.Bool.{Bool, true, false}
+use native.Mathlib.Decide.{decLt}
 use native.Mathlib.Omega.{arith}
+use lib.ListN.{length, List·getD-eq-default, getD-replicate}
+use Rattle.table.specs.declared.Primary.{Primary}
+use Rattle.machine.specs.Entries.{nil}
 use lib.Dec.{eqb, ltb}
 use borrow.Author.Tests.{eqb-true, eqb-false, lt-ltb, le-ltb}
 use Rattle.machine.specs.Basics.{pick}
 use Rattle.machine.specs.Flip.{unaskedEntry}
 use Rattle.machine.specs.Objects.Base.{clash, upd-other, upd-all, In, Nodup}
-use Rattle.machine.specs.Objects.State.{Hd, white, count, State, IsPlaced}
+use Rattle.machine.specs.Objects.State.{root, pendingIs, Hd, white, count, State, IsPlaced}
 use Rattle.machine.specs.Objects.Flipped.{Restful, Comes, Left, Twinned, flipped-inv}
-use Rattle.machine.specs.Objects.Inv.{from, Off, Inv}
+use Rattle.machine.specs.Objects.Inv.{Off, Inv}
 use Rattle.machine.specs.Objects.Ops.{state, push, twins, foundIn, flips}
 
 -- o₁ is o, in which of the objects of vs each but nil was given a replica with all its filled slots to copy
@@ -151,12 +155,44 @@ pub mid-not : {o o₁ : State} {vs : List ℕ} (x : ℕ) → Mid o vs o₁ → o
 mid-not x k e n = k .same x n ∙ e
 
 -- ---- the flip
+-- tasks from p on have nothing, and there are eight roots and eight registers: whoever visits those visits all that comes
+pub comes-in : {K : ℕ → Type 0} {p s : ℕ} {o : State} (vs : List ℕ) → Inv K p s o → In 0 vs → ((t : ℕ) → t < p → In (pendingIs (o .tasks t .pending)) vs)
+    → ((r : ℕ) → r < 8 → In (root (o .roots) r) vs) → ((t r : ℕ) → t < p → r < 8 → In (root (o .tasks t .regs) r) vs) → (x : ℕ) → Comes o x → In x vs
+comes-in {K} {p} {s} {o} vs v none pendings roots registers = all
+  where
+    no-more : (ps : List Primary) (r : ℕ) → length ps ≡ 8 → 8 ≤ r → root ps r ≡ 0
+    no-more ps r e l = ap (λ (q : Primary). q .0) (List·getD-eq-default ps nil {n = r} (omega arith))
+
+    all-nil : (t r : ℕ) → p ≤ t → r < 8 → root (o .tasks t .regs) r ≡ 0
+    all-nil t r l m = rw (v .owners .beyond t l) (ap (λ (q : Primary). q .0) (getD-replicate 8 r nil nil m))
+
+    pending : (t : ℕ) → Dec (t < p) → In (pendingIs (o .tasks t .pending)) vs
+    pending t (yes l) = pendings t l
+    pending t (no l) = rw (v .owners .beyond t (omega (arith, l))) none
+
+    shared : (r : ℕ) → Dec (r < 8) → In (root (o .roots) r) vs
+    shared r (yes l) = roots r l
+    shared r (no l) = rw (no-more (o .roots) r (v .eight) (omega (arith, l))) none
+
+    register : (t r : ℕ) → Dec (t < p) → Dec (r < 8) → In (root (o .tasks t .regs) r) vs
+    register t r (yes l) (yes m) = registers t r l m
+    register t r (no l) (yes m) = rw (all-nil t r (omega (arith, l)) m) none
+    register t r (yes l) (no m) = rw (no-more (o .tasks t .regs) r (v .entries t .eight) (omega (arith, m))) none
+    register t r (no l) (no m) = rw (no-more (o .tasks t .regs) r (v .entries t .eight) (omega (arith, m))) none
+
+    all : (x : ℕ) → Comes o x → In x vs
+    all x (inl e) = rw e none
+    all x (inr (inl (t, e))) = rw (sym e) (pending t (decLt t p))
+    all x (inr (inr (inl (r, e)))) = rw (sym e) (shared r (decLt r 8))
+    all x (inr (inr (inr (t, r, e)))) = rw (sym e) (register t r (decLt t p) (decLt r 8))
+
 -- objects still to be made count as placed while collecting, with nothing to copy and no slot written
 abbrev pub readied : State → State
 readied o =
     state (o .shape) (o .prim) (o .rep) (λ x. pick (ltb (o .shape .n) x) (λ j. false) (o .has x))
     (λ x. pick (ltb (o .shape .n) x) (count 0) (o .hd x)) (o .stack) (o .tasks) (o .roots) (o .on) (o .snap)
 
+-- `readied`, since off every object is white, those still to be made too, and while collecting those count as placed (`newer`)
 pub flip-inv : {K : ℕ → Type 0} {p s : ℕ} {o : State} {vs : List ℕ} {o₁ : State} → Inv K p s o → o .on ≡ false → ((t : ℕ) → Restful (o .tasks t .place))
     → Mid o vs o₁ → ((x : ℕ) → In x vs → Comes o x) → ((x : ℕ) → Comes o x → In x vs)
     → Inv (Left K o vs) p s (flips (readied o₁) vs (λ t. unaskedEntry (o .tasks t)))

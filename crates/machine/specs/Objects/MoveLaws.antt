@@ -1,12 +1,13 @@
 -- The entry of one task changes: what is to be shown of it, whatever else the step changes (`TaskOk`), and if nothing else does (`MoveOk`).
 use Prim.Native.Nat.{ℕ, zero, suc, _+_, _≤_, _<_}
-use mathlib.Core.Path.{_≡_, refl, ap, sym, _∙_}
+use mathlib.Core.Path.{_≡_, refl, ap, sym, subst, _∙_}
 use mathlib.Core.Logic.{_≢_, _⊎_, inl, inr}
 use mathlib.Core.List.{List}
 use mathlib.Core.Bool.{Bool, true, false}
 use native.Mathlib.Decide.{ℕ-discrete}
 use native.Mathlib.Omega.{arith}
 use Rattle.table.specs.declared.Place.{Place}
+use Rattle.table.specs.declared.Place.the-variants.{Idle, New, Asked, FillWrite, FillCopy, StoreWrite, Meet, StoreCopy, Take, Read, Put, Release, Looking, Placing}
 use Rattle.table.specs.declared.Task.{Task}
 use Rattle.machine.specs.Setup.{freshTask}
 use Rattle.machine.specs.Objects.Base.{upd, upd-same, upd-other, upd-all}
@@ -90,6 +91,12 @@ module _ {K : ℕ → Type 0} {p s : ℕ} {o : State} {sh′ : Shape} {hd′ : �
     owners = task-owners v k;
   }
 
+-- what the invariant says of a task at a known place
+pub at-place : {K : ℕ → Type 0} {p s : ℕ} {o : State} → Inv K p s o → (t : ℕ) (pl : Place) → o .tasks t .place ≡ pl
+    → PlaceOk K s (o .shape) (o .hd) (o .prim) (o .rep) (o .has) (Meeting (o .tasks)) (o .on) t (o .tasks t) pl
+at-place {K} {p} {s} {o} v t pl e =
+    subst (λ (w : Place). PlaceOk K s (o .shape) (o .hd) (o .prim) (o .rep) (o .has) (Meeting (o .tasks)) (o .on) t (o .tasks t) w) e (v .places t)
+
 -- an entry with the pending object and the Store that it had
 pub same-pendings : {K : ℕ → Type 0} {p s : ℕ} {o : State} → Inv K p s o → (t u : ℕ) → u ≢ t → 0 < pendingIs (o .tasks t .pending)
     → pendingIs (o .tasks t .pending) ≡ pendingIs (o .tasks u .pending) → ⊥
@@ -116,6 +123,26 @@ pub record MoveOk (K : ℕ → Type 0) (p s : ℕ) (o : State) (t : ℕ) (e′ :
       → LateOf x j (o .tasks t) → LateOf x j e′
   pub later : o .on ≡ true → (x j : ℕ) → j < o .snap .fill x → j < o .shape .ptr x → (IsSeen (o .hd (o .snap .slots x j)) → ⊥)
       → LateOf x j e′ → LateOf x j (o .tasks t)
+
+-- a Store at Meet is late
+pub meets-late : (pl : Place) → MeetsAt pl → LateAt pl
+meets-late Idle m = m
+meets-late (New r len k) m = m
+meets-late (Asked r len k) m = m
+meets-late (FillWrite v) m = m
+meets-late (FillCopy c) m = m
+meets-late (StoreWrite v) m = m
+meets-late (Meet v) m = tt
+meets-late (StoreCopy c) m = tt
+meets-late (Take n) m = m
+meets-late (Read n x i) m = m
+meets-late (Put n x i c) m = m
+meets-late (Release n x i) m = m
+meets-late (Looking q th) m = absurd m
+meets-late (Placing q th) m = absurd m
+
+pub meeting-late : (ts : ℕ → Task) (x j : ℕ) → Meeting ts x j → Late ts x j
+meeting-late ts x j (u, a, b) = (u, a, meets-late (ts u .place) b)
 
 -- nothing changes for a task but which Stores are at Meet
 pub keep-same : {K : ℕ → Type 0} {sh : Shape} {hd : ℕ → Hd} {prim rep : ℕ → ℕ → ℕ} {has : ℕ → ℕ → Bool} {Mt Mt′ : ℕ → ℕ → Type 0} {u : ℕ} {e : Task}

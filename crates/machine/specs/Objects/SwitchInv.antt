@@ -27,7 +27,7 @@ switch-inv {K} {p} {s} {o} v idle = record {
     future = v .shapes .future;
     low = v .shapes .low;
     high = v .shapes .high;
-    filled = λ x. omega arith;
+    filled = λ x. omega (arith, v .shapes .filled x);
     written = λ x. omega (arith, v .shapes .filled x, v .shapes .written x);
     closed = v .shapes .closed;
   };

@@ -78,3 +78,9 @@ pub still-goes : {sh : Shape} {prim : ℕ → ℕ → ℕ} {ts : ℕ → Task} {
 still-goes {ts = ts} k t l pl d =
     let q = k .tasks t l in
     still-entry k t l (goes (ts t) pl) (record { regs = q .regs; pending = q .pending; goesTo = q .goesTo; doing = d })
+
+pub doing-claims : (e : Task) (d : Doing) (q : Primary) (th : Then) → DoingThen e d (q .0) th → DoingAt (goes e (Placing q th)) d (Placing q th)
+doing-claims e d q (ToWrite v) h = h
+doing-claims e d q ToStoreCopy h = h
+doing-claims e d q ToFillCopy h = h
+doing-claims e d q (ToPut n x i) h = h

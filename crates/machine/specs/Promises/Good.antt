@@ -82,3 +82,8 @@ module _ {l : Limits} {w : Store} {t : Table} {ws : List ℕ} (g : Good l w t ws
             (record { kept = K; pa = pa; ra = ra; objects = o; limits = g .limits; long = g .long; inv = inv; agree = agree; still = still }),
         tt,
       )
+
+  -- the task waits: nothing changed
+  pub comes-wait : (before : Place) (X : Type 0) (q : ℕ) → Comes l w i before X (ends (out t (Wait q)) ws)
+  unfolding happenAll
+  comes-wait before X q = inr (g, tt)

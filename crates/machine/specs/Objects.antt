@@ -17,3 +17,8 @@ pub mod PaySteps
 pub mod Ended
 pub mod FillLaws
 pub mod FillSteps
+pub mod NewSteps
+pub mod Ends
+pub mod Onward
+pub mod BeginSteps
+pub mod Start

@@ -7,3 +7,5 @@ pub mod Completes
 pub mod Glue
 pub mod Stores
 pub mod Looks
+pub mod Meets
+pub mod Finish

@@ -1,17 +1,16 @@
 -- The entry of a task whose instruction has ended: idle, and a pending object with all its slots filled is in its register.
-use Prim.Native.Nat.{ℕ, zero, suc, _+_, _≤_, _<_}
-use mathlib.Core.Path.{_≡_, refl, ap, sym, _∙_}
-use mathlib.Core.Logic.{_≢_, _⊎_, inl, inr}
+use Prim.Native.Nat.{ℕ, _≤_, _<_}
+use mathlib.Core.Path.{_≡_, refl, sym, _∙_}
+use mathlib.Core.Logic.{_≢_}
 use mathlib.Core.List.{List}
 use mathlib.Core.Bool.{Bool, true, false}
 use native.Mathlib.Decide.{ℕ-discrete}
 use native.Mathlib.Omega.{arith}
-use lib.ListN.{length, getD, set, length-set}
+use lib.ListN.{length, set, length-set}
 use lib.Seq.{set-out}
 use lib.Dec.{eqb, ltb}
 use borrow.Author.Tests.{eqb-true, eqb-false, ltb-true, ltb-false}
 use Rattle.table.specs.declared.Primary.{Primary}
-use Rattle.table.specs.declared.Pending.{Pending}
 use Rattle.table.specs.declared.Pending.the-variants.{Nothing, Making}
 use Rattle.table.specs.declared.Storing.the-variants.{Nowhere}
 use Rattle.table.specs.declared.Place.the-variants.{Idle}
@@ -32,19 +31,19 @@ set-sound K sh ps r x h z a = on (ltb r (length ps)) refl
     on true l = set-all (λ (b : ℕ) (q : Primary). Sound K sh (q .0)) ps r x nil (ltb-true r (length ps) l) z (λ b d. h b) a
     on false l = rw (set-out ps r x (ltb-false r (length ps) l)) (h a)
 
-pub record Ends (K : ℕ → Type 0) (sh : Shape) (hd : ℕ → Hd) (on : Bool) (x : ℕ) (e : Task) : Type 0 where
+pub record EndedOk (K : ℕ → Type 0) (sh : Shape) (hd : ℕ → Hd) (on : Bool) (x : ℕ) (e : Task) : Type 0 where
   pub mine : EntryOk K sh hd on e
   pub idle : e .place ≡ Idle
   pub unfull : Unfull (e .pending)
   pub nowhere : e .storing ≡ Nowhere
   pub only : 0 < pendingIs (e .pending) → pendingIs (e .pending) ≡ x
 
-pub ends : (K : ℕ → Type 0) (sh : Shape) (hd : ℕ → Hd) (on : Bool) (regs : List Primary) (x : Primary) (r len f : ℕ)
+pub ended-ok : (K : ℕ → Type 0) (sh : Shape) (hd : ℕ → Hd) (on : Bool) (regs : List Primary) (x : Primary) (r len f : ℕ)
     → length regs ≡ 8 → ((a : ℕ) → Sound K sh (root regs a)) → PendingOk K sh hd on (Making x r len f) → f ≤ len
-    → Ends K sh hd on (x .0) (endedEntry regs (Making x r len f))
-ends K sh hd on regs x r len f eight h m l = by (eqb f len) refl
+    → EndedOk K sh hd on (x .0) (endedEntry regs (Making x r len f))
+ended-ok K sh hd on regs x r len f eight h m l = by (eqb f len) refl
   where
-    by : (b : Bool) → eqb f len ≡ b → Ends K sh hd on (x .0) (pick b (entry (set regs r x) Nothing Nowhere Idle) (entry regs (Making x r len f) Nowhere Idle))
+    by : (b : Bool) → eqb f len ≡ b → EndedOk K sh hd on (x .0) (pick b (entry (set regs r x) Nothing Nowhere Idle) (entry regs (Making x r len f) Nowhere Idle))
     by true e = record {
       mine = record {
         eight = length-set regs r x ∙ eight;

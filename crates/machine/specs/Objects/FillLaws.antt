@@ -1,12 +1,12 @@
 -- One slot of a pending object is written, and counted: what that keeps of shapes, headers and copies.
-use Prim.Native.Nat.{ℕ, zero, suc, _+_, _≤_, _<_}
-use mathlib.Core.Path.{_≡_, refl, ap, sym, _∙_}
-use mathlib.Core.Logic.{_≢_, _⊎_, inl, inr}
+use Prim.Native.Nat.{ℕ, suc, _≤_, _<_}
+use mathlib.Core.Path.{_≡_, ap, _∙_}
+use mathlib.Core.Logic.{_⊎_, inl}
 use mathlib.Core.List.{List}
-use mathlib.Core.Bool.{Bool, true, false}
+use mathlib.Core.Bool.{Bool, true}
 use native.Mathlib.Decide.{ℕ-discrete}
 use native.Mathlib.Omega.{arith}
-use Rattle.machine.specs.Objects.Base.{upd, upd-same, upd-other, upd-all}
+use Rattle.machine.specs.Objects.Base.{upd-other, upd-all}
 use Rattle.machine.specs.Objects.State.{Hd, Shape, Snapshot, IsPlaced, left}
 use Rattle.machine.specs.Objects.Inv.{Sound, Shapes, Reach, from, edge, Colours}
 use Rattle.machine.specs.Objects.Ops.{wroteOne, filledOne}

@@ -1,23 +1,20 @@
 -- The steps of a Fill keep the invariant: the primary's slot is written; the replica's slot is written and counted; off, both at once.
-use Prim.Native.Nat.{ℕ, zero, suc, _+_, _≤_, _<_}
-use mathlib.Core.Path.{_≡_, refl, ap, sym, _∙_}
-use mathlib.Core.Logic.{_≢_, _⊎_, inl, inr}
+use Prim.Native.Nat.{ℕ, suc, _+_, _≤_, _<_}
+use mathlib.Core.Path.{_≡_, refl, sym, _∙_}
+use mathlib.Core.Logic.{_≢_, inl}
 use mathlib.Core.Bool.{Bool, true, false}
 use native.Mathlib.Omega.{arith}
-use lib.ListN.{length, set, length-set}
 use lib.Dec.{ltb, eqb}
-use borrow.Author.Tests.{lt-ltb, ltb-true, eqb-true, eqb-false}
+use borrow.Author.Tests.{eqb-true, eqb-false}
 use Rattle.table.specs.declared.Primary.{Primary}
 use Rattle.table.specs.declared.Operand.{Operand}
 use Rattle.table.specs.declared.Operand.the-variants.{Plain, Pointer}
 use Rattle.table.specs.declared.Copied.{Copied}
-use Rattle.table.specs.declared.Copied.the-variants.{Same, Renamed}
-use Rattle.table.specs.declared.Pending.{Pending}
-use Rattle.table.specs.declared.Pending.the-variants.{Nothing, Making}
+use Rattle.table.specs.declared.Copied.the-variants.{Renamed}
+use Rattle.table.specs.declared.Pending.the-variants.{Making}
 use Rattle.table.specs.declared.Storing.{Storing}
 use Rattle.table.specs.declared.Storing.the-variants.{Nowhere, Slot}
 use Rattle.table.specs.declared.Then.the-variants.{ToFillCopy}
-use Rattle.table.specs.declared.Place.{Place}
 use Rattle.table.specs.declared.Place.the-variants.{FillWrite, FillCopy, Take, Looking}
 use Rattle.table.specs.declared.Task.{Task}
 use Rattle.machine.specs.Basics.{pick}
@@ -26,15 +23,14 @@ use Rattle.machine.specs.Tasks.{holdingOf}
 use Rattle.machine.specs.Look.{lookAhead}
 use Rattle.machine.specs.Begin.{isPointer}
 use Rattle.machine.specs.Switch.{endedEntry}
-use Rattle.machine.specs.Objects.Base.{clash, off-on, upd, upd-same, upd-other, slot, slot-same, slot-other}
-use Rattle.machine.specs.Objects.State.{Hd, white, claimed, count, locked, Shape, State, IsSeen, IsPlaced, left, pendingIs, OfPending, On, isRenamed, LateAt, MeetsAt, Meeting, Late}
-use Rattle.machine.specs.Objects.Inv.{Sound, SoundOperand, SoundCopied, Shapes, Colours, PendingOk, StoringOk, EntryOk, HalfFilled, PlaceOk, Owners, Off, Inv}
+use Rattle.machine.specs.Objects.Base.{clash, upd, upd-same, upd-other, slot, slot-same, slot-other}
+use Rattle.machine.specs.Objects.State.{Hd, white, count, locked, Shape, State, pendingIs, OfPending, On, isRenamed, LateAt, Meeting, Late}
+use Rattle.machine.specs.Objects.Inv.{Sound, SoundOperand, SoundCopied, Colours, PendingOk, StoringOk, HalfFilled, PlaceOk, Off, Inv}
 use Rattle.machine.specs.Objects.Ops.{goes, goesWith, wroteOne, filledOne, halfFills, fillsCopy, fillsOff}
 use Rattle.machine.specs.Objects.Late.{late-after, late-before, meeting-after}
-use Rattle.machine.specs.Objects.Keep.{Keep, store-made}
-use Rattle.machine.specs.Objects.SlotLaws.{Elsewhere, SlotOk, slot-colours, slot-shapes, ShapeKept, SlotKept, slot-keep, owners-inv, goes-owners, goes-entry, join}
+use Rattle.machine.specs.Objects.SlotLaws.{slot-colours, slot-shapes, slot-keep, owners-inv, goes-owners, join}
 use Rattle.machine.specs.Objects.StoreSteps.{pos, pointer-sound, renamed-sound}
-use Rattle.machine.specs.Objects.Ended.{Ends, ends}
+use Rattle.machine.specs.Objects.Ended.{EndedOk, ended-ok}
 use Rattle.machine.specs.Objects.FillLaws.{wrote-shapes, wrote-colours, filled-sound, filled-shapes, filled-colours}
 
 operand-sound : (K : ℕ → Type 0) (sh sh′ : Shape) → ((a : ℕ) → Sound K sh a → Sound K sh′ a) → (w : Operand) → SoundOperand K sh w → SoundOperand K sh′ w
@@ -276,6 +272,6 @@ module _ {K : ℕ → Type 0} {p s : ℕ} {o : State} (v : Inv K p s o) (t : ℕ
       next-filled : f + 1 ≡ sh′ .fill (x .0)
       next-filled = rw (upd-same (o .shape .fill) (x .0) (suc i)) (omega (arith, made .4))
 
-      end : Ends K sh′ (o .hd) (o .on) (x .0) e
-      end = ends K sh′ (o .hd) (o .on) (o .tasks t .regs) x r len (f + 1) (v .entries t .eight) (λ a. sound _ (v .entries t .regs a))
+      end : EndedOk K sh′ (o .hd) (o .on) (x .0) e
+      end = ended-ok K sh′ (o .hd) (o .on) (o .tasks t .regs) x r len (f + 1) (v .entries t .eight) (λ a. sound _ (v .entries t .regs a))
           (made .0, made .1, made .2, made .3, next-filled, made .5, made .6) (omega (arith, made .3, made .4, place .1 .0))

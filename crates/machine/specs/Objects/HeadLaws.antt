@@ -1,22 +1,22 @@
 -- One header changes, and the stack with it: what is to be shown of headers and copies (`HeadOk`) and of the task that does it (`HeadTask`).
-use Prim.Native.Nat.{ℕ, zero, suc, _+_, _≤_, _<_}
+use Prim.Native.Nat.{ℕ, zero, suc, _≤_, _<_}
 use mathlib.Core.Path.{_≡_, refl, ap, sym, _∙_}
 use mathlib.Core.Logic.{_≢_, _⊎_, inl, inr}
 use mathlib.Core.List.{List, _∷_}
-use mathlib.Core.Bool.{Bool, true, false}
+use mathlib.Core.Bool.{Bool, true}
 use native.Mathlib.Omega.{arith}
 use borrow.Author.Tests.{ne-eqb}
 use Rattle.table.specs.declared.Pending.{Pending}
 use Rattle.table.specs.declared.Pending.the-variants.{Nothing, Making}
 use Rattle.table.specs.declared.Place.{Place}
 use Rattle.table.specs.declared.Task.{Task}
-use Rattle.machine.specs.Objects.Base.{upd, upd-same, upd-other, upd-all, In, Nodup}
+use Rattle.machine.specs.Objects.Base.{upd, upd-other, upd-all, In, Nodup}
 use Rattle.machine.specs.Objects.State.{Hd, white, claimed, count, locked, Shape, Snapshot, State, IsSeen, IsPlaced, IsUnplaced, left, HasJob, HasClaim, MeetsAt, LateAt, Meeting, Late}
-use Rattle.machine.specs.Objects.Inv.{Shapes, Colours, PendingOk, EntryOk, PlaceOk, Mode, Inv}
+use Rattle.machine.specs.Objects.Inv.{Colours, PendingOk, PlaceOk, Inv}
 use Rattle.machine.specs.Objects.Ops.{state, goes, push}
 use Rattle.machine.specs.Objects.Keep.{Keep}
 use Rattle.machine.specs.Objects.Late.{late-after, late-before, meeting-after}
-use Rattle.machine.specs.Objects.MoveLaws.{TaskOk, task-inv, same-pendings, same-stores, late-colours}
+use Rattle.machine.specs.Objects.MoveLaws.{task-inv, same-pendings, same-stores, or-right, late-colours}
 
 -- ---- headers go on
 pub placed-seen : (h : Hd) → IsPlaced h → IsSeen h
@@ -159,8 +159,8 @@ keep-head {K} {sh} {prim} {rep} {has} {has′} {Mt} {Mt′} {e} hd y h u nl nc s
   claim = λ x q. rw (upd-other hd y h x (λ w. nc (ap hd (sym w) ∙ q))) q;
   lock = λ x i q. rw (upd-other hd y h x (away x i q)) q;
   slots = λ x i q. refl;
-  read = λ x i z q. or (meets x i);
-  put = λ x i q. or (meets x i);
+  read = λ x i z q. or-right (meets x i);
+  put = λ x i q. or-right (meets x i);
   written = λ x i q w. other x i (away x i q) ∙ w;
   store = λ x i a. refl;
   fill = λ x q z. refl;
@@ -170,10 +170,6 @@ keep-head {K} {sh} {prim} {rep} {has} {has′} {Mt} {Mt′} {e} hd y h u nl nc s
   where
     away : (x i : ℕ) → hd x ≡ locked i u → x ≢ y
     away x i q w = nl i (ap hd (sym w) ∙ q)
-
-    or : {A B C : Type 0} → (B → C) → A ⊎ B → A ⊎ C
-    or g (inl a) = inl a
-    or g (inr b) = inr (g b)
 
 -- ---- the task that does it
 pub record HeadTask (K : ℕ → Type 0) (p s : ℕ) (o : State) (has′ : ℕ → ℕ → Bool) (y : ℕ) (h₀ h : Hd) (t : ℕ) (pl : Place) : Type 0 where

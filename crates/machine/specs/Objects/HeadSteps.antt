@@ -1,30 +1,29 @@
 -- Look and place keep the invariant: a look that claims, one that finds the replica, a place.
-use Prim.Native.Nat.{ℕ, zero, suc, _+_, _≤_, _<_}
+use Prim.Native.Nat.{ℕ, _≤_, _<_}
 use mathlib.Core.Path.{_≡_, refl, ap, sym, _∙_}
-use mathlib.Core.Logic.{_≢_, _⊎_, inl, inr}
+use mathlib.Core.Logic.{inr}
 use mathlib.Core.List.{List}
 use mathlib.Core.Bool.{Bool, true, false}
 use native.Mathlib.Omega.{arith}
 use borrow.Author.Tests.{lt-ltb}
 use Rattle.table.specs.declared.Primary.{Primary}
 use Rattle.table.specs.declared.Replica.{Replica}
-use Rattle.table.specs.declared.Copied.the-variants.{Same, Renamed}
 use Rattle.table.specs.declared.Then.{Then}
 use Rattle.table.specs.declared.Then.the-variants.{ToWrite, ToStoreCopy, ToFillCopy, ToPut}
 use Rattle.table.specs.declared.Place.{Place}
-use Rattle.table.specs.declared.Place.the-variants.{Idle, New, Asked, FillWrite, FillCopy, StoreWrite, Meet, StoreCopy, Take, Read, Put, Release, Looking, Placing}
+use Rattle.table.specs.declared.Place.the-variants.{Looking, Placing}
 use Rattle.table.specs.declared.Task.{Task}
 use Rattle.machine.specs.Words.{replica}
 use Rattle.machine.specs.Tasks.{holdingOf}
 use Rattle.machine.specs.Look.{goOn}
-use Rattle.machine.specs.Objects.Base.{clash, off-on, upd, upd-same, upd-other, upd-all, In, Nodup}
-use Rattle.machine.specs.Objects.State.{Hd, white, claimed, count, locked, Shape, Snapshot, State, IsPlaced, IsUnplaced, left, JobIn, ClaimIn, HasJob, HasClaim, MeetsAt, LateThen, LateAt, Meeting, Late}
-use Rattle.machine.specs.Objects.Inv.{Sound, Shapes, Colours, ThenOk, PlaceOk, Mode, Inv}
+use Rattle.machine.specs.Objects.Base.{clash, off-on, upd, upd-same, upd-other, In}
+use Rattle.machine.specs.Objects.State.{Hd, white, claimed, count, locked, Shape, Snapshot, State, IsPlaced, IsUnplaced, left, JobIn, ClaimIn, LateThen, LateAt, Meeting}
+use Rattle.machine.specs.Objects.Inv.{Sound, Shapes, Colours, ThenOk, PlaceOk, Inv}
 use Rattle.machine.specs.Objects.Ops.{goes, push, moves, heads, twins}
 use Rattle.machine.specs.Objects.Keep.{of-store}
 use Rattle.machine.specs.Objects.Late.{meeting-after}
-use Rattle.machine.specs.Objects.MoveLaws.{at-place, go-inv}
-use Rattle.machine.specs.Objects.HeadLaws.{placed-seen, in-push, push-in, push-out, push-into, push-nodup, unstacked, HeadOk, HeadTask, head-placed, head-colours, head-inv}
+use Rattle.machine.specs.Objects.MoveLaws.{at-place, or-right, go-inv}
+use Rattle.machine.specs.Objects.HeadLaws.{placed-seen, in-push, push-in, push-out, push-into, push-nodup, unstacked, HeadOk, head-placed, head-colours, head-inv}
 
 -- ---- what follows a look, before and after
 then-goes : (K : ℕ → Type 0) (sh : Shape) (hd hd′ : ℕ → Hd) (prim : ℕ → ℕ → ℕ) (Mt Mt′ : ℕ → ℕ → Type 0) (t : ℕ) (e : Task) (pl : Place) (q : ℕ) (th : Then)
@@ -33,11 +32,7 @@ then-goes : (K : ℕ → Type 0) (sh : Shape) (hd hd′ : ℕ → Hd) (prim : �
 then-goes K sh hd hd′ prim Mt Mt′ t e pl q (ToWrite v) placed lock meets h = h
 then-goes K sh hd hd′ prim Mt Mt′ t e pl q ToStoreCopy placed lock meets h = of-store (e .storing) (λ x i a h. (h .0, h .1, placed x (h .2))) h
 then-goes K sh hd hd′ prim Mt Mt′ t e pl q ToFillCopy placed lock meets h = h
-then-goes K sh hd hd′ prim Mt Mt′ t e pl q (ToPut n x i) placed lock meets h = (h .0, lock (x .0) i (h .1), h .2, or (meets (x .0) i) (h .3))
-  where
-    or : {A B C : Type 0} → (B → C) → A ⊎ B → A ⊎ C
-    or g (inl a) = inl a
-    or g (inr b) = inr (g b)
+then-goes K sh hd hd′ prim Mt Mt′ t e pl q (ToPut n x i) placed lock meets h = (h .0, lock (x .0) i (h .1), h .2, or-right (meets (x .0) i) (h .3))
 
 on-place : (K : ℕ → Type 0) (s : ℕ) (sh : Shape) (hd : ℕ → Hd) (prim rep : ℕ → ℕ → ℕ) (has : ℕ → ℕ → Bool) (Mt : ℕ → ℕ → Type 0) (on : Bool) (t : ℕ) (e : Task)
     (q : ℕ) (th : Then) → on ≡ true → Sound K sh q → IsPlaced (hd q) → ThenOk K sh hd prim Mt t e q th

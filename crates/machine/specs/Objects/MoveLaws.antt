@@ -1,6 +1,6 @@
 -- The entry of one task changes: what is to be shown of it, whatever else the step changes (`TaskOk`), and if nothing else does (`MoveOk`).
-use Prim.Native.Nat.{ℕ, zero, suc, _+_, _≤_, _<_}
-use mathlib.Core.Path.{_≡_, refl, ap, sym, subst, _∙_}
+use Prim.Native.Nat.{ℕ, _≤_, _<_}
+use mathlib.Core.Path.{_≡_, refl, sym, subst, _∙_}
 use mathlib.Core.Logic.{_≢_, _⊎_, inl, inr}
 use mathlib.Core.List.{List}
 use mathlib.Core.Bool.{Bool, true, false}
@@ -12,7 +12,7 @@ use Rattle.table.specs.declared.Task.{Task}
 use Rattle.machine.specs.Setup.{freshTask}
 use Rattle.machine.specs.Objects.Base.{upd, upd-same, upd-other, upd-all}
 use Rattle.machine.specs.Objects.State.{Hd, white, claimed, count, locked, Shape, Snapshot, State, IsSeen, IsPlaced, left, pendingIs, On, HasJob, HasClaim, MeetsAt, LateAt, Meeting, Late}
-use Rattle.machine.specs.Objects.Inv.{Sound, Shapes, Colours, EntryOk, PlaceOk, Owners, Off, Mode, Inv}
+use Rattle.machine.specs.Objects.Inv.{Sound, Shapes, Colours, EntryOk, PlaceOk, Owners, Mode, Inv}
 use Rattle.machine.specs.Objects.Ops.{state, goes, moves}
 use Rattle.machine.specs.Objects.Keep.{Keep, keep-entry, keep-place}
 use Rattle.machine.specs.Objects.Late.{LateOf, MeetingOf, late-after, late-before, meeting-after}
@@ -144,6 +144,10 @@ meets-late (Placing q th) m = absurd m
 pub meeting-late : (ts : ℕ → Task) (x j : ℕ) → Meeting ts x j → Late ts x j
 meeting-late ts x j (u, a, b) = (u, a, meets-late (ts u .place) b)
 
+pub or-right : {A B C : Type 0} → (B → C) → A ⊎ B → A ⊎ C
+or-right f (inl a) = inl a
+or-right f (inr b) = inr (f b)
+
 -- nothing changes for a task but which Stores are at Meet
 pub keep-same : {K : ℕ → Type 0} {sh : Shape} {hd : ℕ → Hd} {prim rep : ℕ → ℕ → ℕ} {has : ℕ → ℕ → Bool} {Mt Mt′ : ℕ → ℕ → Type 0} {u : ℕ} {e : Task}
     → ((x i : ℕ) → hd x ≡ locked i u → Mt x i → Mt′ x i) → Keep K sh sh hd hd prim prim rep rep has has Mt Mt′ u e
@@ -157,18 +161,14 @@ keep-same {K} {sh} {hd} {prim} {rep} {has} {Mt} {Mt′} {u} f = record {
   claim = λ x h. h;
   lock = λ x i h. h;
   slots = λ x i h. refl;
-  read = λ x i q h. or (f x i h);
-  put = λ x i h. or (f x i h);
+  read = λ x i q h. or-right (f x i h);
+  put = λ x i h. or-right (f x i h);
   written = λ x i h w. w;
   store = λ x i a. refl;
   fill = λ x q z. refl;
   wrote = λ x q z. refl;
   next = λ x q z. refl;
 }
-  where
-    or : {A B C : Type 0} → (B → C) → A ⊎ B → A ⊎ C
-    or g (inl a) = inl a
-    or g (inr b) = inr (g b)
 
 seen? : (h : Hd) → Dec (IsSeen h)
 seen? white = no (λ p. p)
@@ -210,6 +210,15 @@ late-colours {K} {sh} {g} {hd} {prim} {rep} {has} {stack} {Lt} {Lt′} f b c = r
     look x j l m (yes w) h = inl w
     look x j l m (no d) (inl w) = inl w
     look x j l m (no d) (inr h) = inr (h .0, h .1, λ w. h .2 (b x j l m d w))
+
+-- the last of two changes of one entry counts
+pub upd-twice : (ts : ℕ → Task) (t : ℕ) (a b : Task) → upd (upd ts t a) t b ≡ upd ts t b
+upd-twice ts t a b = λ i u. each u i
+  where
+    each : (u : ℕ) → upd (upd ts t a) t b u ≡ upd ts t b u
+    each =
+        upd-all (λ u e. e ≡ upd ts t b u) (upd ts t a) t b (sym (upd-same ts t b))
+        (λ u d. upd-other ts t a u d ∙ sym (upd-other ts t b u d))
 
 module _ {K : ℕ → Type 0} {p s : ℕ} (o : State) (t : ℕ) (e′ : Task) (v : Inv K p s o) (k : MoveOk K p s o t e′) where
   move-mode : (b : Bool) → o .on ≡ b → Mode b K (o .shape) (o .snap) (o .hd) (o .prim) (o .rep) (o .has) (o .stack) (Late (o .tasks))

@@ -1,8 +1,8 @@
 -- The steps of a payment keep the invariant: take, read, put, release.
-use Prim.Native.Nat.{ℕ, zero, suc, _+_, _≤_, _<_}
+use Prim.Native.Nat.{ℕ, zero, suc, _≤_, _<_}
 use mathlib.Core.Path.{_≡_, refl, ap, sym, _∙_}
 use mathlib.Core.Logic.{_≢_, _⊎_, inl, inr}
-use mathlib.Core.List.{List, [], _∷_}
+use mathlib.Core.List.{List, _∷_}
 use mathlib.Core.Bool.{Bool, true, false}
 use native.Mathlib.Decide.{ℕ-discrete}
 use native.Mathlib.Omega.{arith}
@@ -19,14 +19,14 @@ use Rattle.machine.specs.Basics.{pick}
 use Rattle.machine.specs.Words.{primary, replica, copiedWord}
 use Rattle.machine.specs.Tasks.{holdingOf}
 use Rattle.machine.specs.Look.{lookAhead}
-use Rattle.machine.specs.Objects.Base.{clash, off-on, upd, upd-same, upd-other, upd-all, slot, slot-same, slot-other, at-slot, In}
-use Rattle.machine.specs.Objects.State.{Hd, white, claimed, count, locked, Shape, Snapshot, State, IsSeen, IsPlaced, left, HasJob, isRenamed, Meeting, Late}
-use Rattle.machine.specs.Objects.Inv.{Sound, SoundCopied, Shapes, Colours, PlaceOk, Inv}
+use Rattle.machine.specs.Objects.Base.{clash, off-on, upd, upd-same, slot, slot-same, slot-other, at-slot, In}
+use Rattle.machine.specs.Objects.State.{Hd, count, locked, Shape, Snapshot, State, IsSeen, IsPlaced, left, HasJob, isRenamed, Meeting, Late}
+use Rattle.machine.specs.Objects.Inv.{Sound, SoundCopied, Colours, PlaceOk, Inv}
 use Rattle.machine.specs.Objects.Ops.{goes, push, moves, heads, copies}
 use Rattle.machine.specs.Objects.Keep.{Keep}
 use Rattle.machine.specs.Objects.Late.{late-after, late-before, meeting-after}
-use Rattle.machine.specs.Objects.MoveLaws.{TaskOk, task-inv, at-place, same-pendings, same-stores, meeting-late, late-colours, go-inv}
-use Rattle.machine.specs.Objects.HeadLaws.{placed-seen, in-push, push-in, push-out, push-into, push-nodup, unstacked, HeadOk, HeadTask, head-inv}
+use Rattle.machine.specs.Objects.MoveLaws.{task-inv, at-place, same-pendings, same-stores, meeting-late, or-right, late-colours, go-inv}
+use Rattle.machine.specs.Objects.HeadLaws.{placed-seen, in-push, push-in, push-out, push-into, push-nodup, unstacked, HeadOk, head-inv}
 
 -- ---- take: the top of the stack, count to locked
 take-ok : {K : ℕ → Type 0} {sh : Shape} {g : Snapshot} {hd : ℕ → Hd} {prim rep : ℕ → ℕ → ℕ} {has : ℕ → ℕ → Bool} {stack : List ℕ}
@@ -193,10 +193,6 @@ puts {K} {p} {s} o t n x i c v l ep = task-inv v record {
     same (inl q) = inl (slot-same (o .rep) (x .0) i (copiedWord c) ∙ sym q)
     same (inr m) = inr (meets (x .0) i m)
 
-    or : {A B C : Type 0} → (B → C) → A ⊎ B → A ⊎ C
-    or g (inl a) = inl a
-    or g (inr b) = inr (g b)
-
     keep : (u : ℕ) → u ≢ t
         → Keep K (o .shape) (o .shape) (o .hd) (o .hd) (o .prim) (o .prim) (o .rep) (slot (o .rep) (x .0) i (copiedWord c)) (o .has) (slot (o .has) (x .0) i true)
         (Meeting (o .tasks)) (Meeting (upd (o .tasks) t e′)) u (o .tasks u)
@@ -210,8 +206,8 @@ puts {K} {p} {s} o t n x i c v l ep = task-inv v record {
       claim = λ y w. w;
       lock = λ y j w. w;
       slots = λ y j w. refl;
-      read = λ y j q w. or (meets y j);
-      put = λ y j w. rw (slot-other (o .rep) (x .0) i (copiedWord c) y j (away y j w)) (or (meets y j));
+      read = λ y j q w. or-right (meets y j);
+      put = λ y j w. rw (slot-other (o .rep) (x .0) i (copiedWord c) y j (away y j w)) (or-right (meets y j));
       written = λ y j w m. slot-other (o .has) (x .0) i true y j (away y j w) ∙ m;
       store = λ y j a. refl;
       fill = λ y q z. refl;

@@ -1,18 +1,16 @@
 -- The laws that steps on slots and entries share: what a change of one slot asks, what other tasks keep, how the parts of a step are joined.
-use Prim.Native.Nat.{ℕ, zero, suc, _+_, _≤_, _<_}
-use mathlib.Core.Path.{_≡_, refl, ap, sym, _∙_}
+use Prim.Native.Nat.{ℕ, _≤_, _<_}
+use mathlib.Core.Path.{_≡_, refl, sym, _∙_}
 use mathlib.Core.Logic.{_≢_, _⊎_, inl, inr}
 use mathlib.Core.List.{List}
 use mathlib.Core.Bool.{Bool, true, false}
-use native.Mathlib.Decide.{ℕ-discrete}
 use native.Mathlib.Omega.{arith}
 use Rattle.table.specs.declared.Place.{Place}
 use Rattle.table.specs.declared.Task.{Task}
 use Rattle.machine.specs.Tasks.{holdingOf}
-use Rattle.machine.specs.Setup.{freshTask}
-use Rattle.machine.specs.Objects.Base.{upd, upd-same, upd-other, upd-all, at-slot}
-use Rattle.machine.specs.Objects.State.{Hd, white, claimed, count, locked, Shape, Snapshot, State, IsSeen, IsPlaced, left, pendingIs, On, JobIn, ClaimIn, HasJob, HasClaim, MeetsAt, LateAt, Meeting, Late}
-use Rattle.machine.specs.Objects.Inv.{Sound, Shapes, Colours, EntryOk, PlaceOk, Owners, Off, Mode, Inv}
+use Rattle.machine.specs.Objects.Base.{upd, upd-other, upd-all, at-slot}
+use Rattle.machine.specs.Objects.State.{Hd, locked, Shape, Snapshot, State, IsSeen, IsPlaced, left, pendingIs, On, JobIn, ClaimIn, HasJob, HasClaim, MeetsAt, LateAt, Meeting, Late}
+use Rattle.machine.specs.Objects.Inv.{Sound, Shapes, Colours, EntryOk, PlaceOk, Owners, Mode, Inv}
 use Rattle.machine.specs.Objects.Ops.{state, goes, moves}
 use Rattle.machine.specs.Objects.Late.{late-after, late-before, meeting-after}
 use Rattle.machine.specs.Objects.Keep.{Keep, keep-entry, keep-place}

@@ -1,5 +1,5 @@
 -- The steps of a Store keep the invariant: the primary's slot is written; meet; the replica's slot is written.
-use Prim.Native.Nat.{ℕ, zero, suc, _+_, _≤_, _<_}
+use Prim.Native.Nat.{ℕ, zero, suc, _<_}
 use mathlib.Core.Path.{_≡_, refl, ap, sym, _∙_}
 use mathlib.Core.Logic.{_≢_, _⊎_, inl, inr}
 use mathlib.Core.Bool.{Bool, true, false}
@@ -11,10 +11,8 @@ use Rattle.table.specs.declared.Operand.{Operand}
 use Rattle.table.specs.declared.Operand.the-variants.{Plain, Pointer}
 use Rattle.table.specs.declared.Copied.{Copied}
 use Rattle.table.specs.declared.Copied.the-variants.{Same, Renamed}
-use Rattle.table.specs.declared.Storing.{Storing}
-use Rattle.table.specs.declared.Storing.the-variants.{Nowhere, Slot}
+use Rattle.table.specs.declared.Storing.the-variants.{Slot}
 use Rattle.table.specs.declared.Then.the-variants.{ToStoreCopy}
-use Rattle.table.specs.declared.Place.{Place}
 use Rattle.table.specs.declared.Place.the-variants.{StoreWrite, Meet, StoreCopy, Take, Looking}
 use Rattle.table.specs.declared.Task.{Task}
 use Rattle.machine.specs.Basics.{pick}
@@ -22,12 +20,12 @@ use Rattle.machine.specs.Words.{replica, operandWord, copiedWord}
 use Rattle.machine.specs.Tasks.{holdingOf}
 use Rattle.machine.specs.Look.{lookAhead}
 use Rattle.machine.specs.Begin.{isPointer}
-use Rattle.machine.specs.Objects.Base.{clash, off-on, upd, upd-same, upd-other, upd-id, slot, slot-same, slot-other}
-use Rattle.machine.specs.Objects.State.{Hd, white, claimed, count, locked, Shape, State, IsSeen, IsPlaced, left, pendingIs, OfStore, On, isRenamed, LateAt, MeetsAt, Meeting, Late}
-use Rattle.machine.specs.Objects.Inv.{Sound, SoundOperand, SoundCopied, Colours, StoringOk, EntryOk, PlaceOk, Owners, Off, Inv}
+use Rattle.machine.specs.Objects.Base.{clash, off-on, upd, upd-same, slot, slot-same, slot-other}
+use Rattle.machine.specs.Objects.State.{Hd, white, locked, Shape, State, IsSeen, IsPlaced, left, OfStore, On, isRenamed, LateAt, Meeting, Late}
+use Rattle.machine.specs.Objects.Inv.{Sound, SoundOperand, SoundCopied, Colours, StoringOk, PlaceOk, Off, Inv}
 use Rattle.machine.specs.Objects.Ops.{goes, moves, stores, copies}
 use Rattle.machine.specs.Objects.Late.{late-after, late-before, meeting-after}
-use Rattle.machine.specs.Objects.SlotLaws.{Elsewhere, SlotOk, slot-colours, slot-shapes, ShapeKept, shape-same, SlotKept, slot-keep, Holdless, owners-inv, goes-owners, goes-entry, late-mode, moves-inv, join}
+use Rattle.machine.specs.Objects.SlotLaws.{Elsewhere, slot-colours, slot-shapes, shape-same, slot-keep, owners-inv, goes-owners, goes-entry, late-mode, moves-inv, join}
 
 pub pos : (q : ℕ) → q ≢ 0 → 0 < q
 pos zero z = absurd (z refl)

@@ -24,3 +24,8 @@ pub mod Block
 pub mod Make
 pub mod Older
 pub mod Regs
+pub mod FlipPass
+pub mod FlipStart
+pub mod FlipVisit
+pub mod FlipWords
+pub mod Home

@@ -9,3 +9,6 @@ pub mod Stores
 pub mod Looks
 pub mod Meets
 pub mod Finish
+pub mod Ending
+pub mod Pays
+pub mod Copies

@@ -143,8 +143,7 @@ module _ {K : ℕ → Type 0} {pa ra : ℕ → ℕ} {o : State} {t : Table} {ws 
         on (no p) (no q) = rw (pa-old y p, len-old y p, pa-old z q, len-old z q) (k .lay .apart-p y z (held-old y p h) (held-old z q g) d)
 
     -- every word but the new ones stays: replicas, and their addresses, may have one more
-    module _ (ra′ : ℕ → ℕ) (ra-old : (y : ℕ) → y ≢ newOf o → ra′ y ≡ ra y)
-        (named : (y j : ℕ) → Held K (o .shape) y → j < o .shape .wrote y → j < o .shape .ptr y → o .prim y j ≤ o .shape .n) where
+    module _ (ra′ : ℕ → ℕ) (ra-old : (y : ℕ) → y ≢ newOf o → ra′ y ≡ ra y) where
       abbrev Ok′ : Loc → Type 0
       Ok′ = Ok K sh′ (o .hd) (upd (o .has) (newOf o) (λ j. false)) (t .marks .top) (end t)
 
@@ -168,6 +167,7 @@ module _ {K : ℕ → Type 0} {pa ra : ℕ → ℕ} {o : State} {t : Table} {ws 
               let l : suc (suc j) < o .shape .wrote y + 2 = omega (arith, u .1, upd-other (o .shape .wrote) (newOf o) 0 y n) in
               rw (pa-old y n, ptr-old y n)
               (k .mem (P y (suc (suc j))) (held-old y n (u .0), l) (λ z. z)
-              ∙ slot-word-same pa pa′ (o .shape .ptr y) j (o .prim y j) (λ m. older-same pa (t .marks .a + 2) (o .prim y j) (named y j (held-old y n (u .0)) (omega arith) m)))
+              ∙ slot-word-same pa pa′ (o .shape .ptr y) j (o .prim y j)
+              (λ m. let h = held-old y n (u .0) in older-same pa (t .marks .a + 2) (o .prim y j) (v .shapes .named y j (h .2) (h .1) (omega arith) m)))
       block-frame ls i0 i1 rs (R y u) h q = rs y u h q
       block-frame ls i0 i1 rs (S u) h q = k .mem (S u) h (λ z. z) ∙ older-same pa (t .marks .a + 2) (getD (o .stack) (u - t .marks .top) 0) (stack-low (u - t .marks .top))

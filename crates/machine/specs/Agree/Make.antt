@@ -97,12 +97,11 @@ module _ {K : ℕ → Type 0} {pa ra : ℕ → ℕ} {o : State} {t : Table} {ws 
       (rw length-set (omega (arith, spaces v k)))
 
   pub make-off-agree : o .on ≡ false → t .marks .a + len + 2 ≤ end t
-      → ((y j : ℕ) → Held K (o .shape) y → j < o .shape .wrote y → j < o .shape .ptr y → o .prim y j ≤ o .shape .n)
       → t .marks .j + jobsIn (holdingOf (o .tasks i .place)) ≡ t .marks .j + jobsIn (holdingOf (e .place))
       → Agree K (upd pa (suc (o .shape .n)) (t .marks .a + 2)) ra (makes o len m i e)
       (entered t (marksAt (t .marks .a + (len + 2)) (t .marks .top) (t .marks .j) (t .marks .copies)) i (atTask (upd pa (suc (o .shape .n)) (t .marks .a + 2)) ra e))
       (laid ws (t .marks .a) (descriptor len m) 0)
-  make-off-agree off space named q = enter k il record {
+  make-off-agree off space q = enter k il record {
     size = size-laid ws (t .marks .a) (descriptor len m) 0;
     based = omega (arith, k .marked .based);
     free = omega (arith, idle, k .marked .stack, ap length (offs .empty));
@@ -114,7 +113,7 @@ module _ {K : ℕ → Type 0} {pa ra : ℕ → ℕ} {o : State} {t : Table} {ws 
     mem =
         laid-primary ra [] 0 room (apart has′ lay (wrote-low v k len m room) (omega (arith, k .marked .based)) (omega (arith, k .marked .stack, ap length (offs .empty))))
         (rw (offs .all new (omega arith)))
-        (block-frame v k len m room ra (λ y d. refl) named (P new 0 ∷ P new 1 ∷ []) (inl refl) (inr (inl refl)) (λ y u h d. absurd (unplaced y (h .0) (h .1))));
+        (block-frame v k len m room ra (λ y d. refl) (P new 0 ∷ P new 1 ∷ []) (inl refl) (inr (inl refl)) (λ y u h d. absurd (unplaced y (h .0) (h .1))));
     roots = make-roots v k (t .marks .a + 2);
     tasks = make-off-tasks v k (t .marks .a + 2);
   }
@@ -148,14 +147,12 @@ module _ {K : ℕ → Type 0} {pa ra : ℕ → ℕ} {o : State} {t : Table} {ws 
       }
 
   pub make-on-agree : o .on ≡ true → t .marks .a + t .marks .j + 2 * (len + 2) ≤ t .marks .top
-      → ((y j : ℕ) → Held K (o .shape) y → j < o .shape .wrote y → j < o .shape .ptr y → o .prim y j ≤ o .shape .n)
-      → ((y j : ℕ) → Held K (o .shape) y → IsPlaced (o .hd y) → o .has y j ≡ true → j < o .shape .ptr y → o .rep y j ≤ o .shape .n)
       → t .marks .j + jobsIn (holdingOf (o .tasks i .place)) ≡ t .marks .j + jobsIn (holdingOf (e .place))
       → Agree K (upd pa (suc (o .shape .n)) (t .marks .a + 2)) (upd ra (suc (o .shape .n)) (t .marks .a + len + 4)) (makes o len m i e)
       (entered t (marksAt (t .marks .a + 2 * (len + 2)) (t .marks .top) (t .marks .j) (t .marks .copies)) i
       (atTask (upd pa (suc (o .shape .n)) (t .marks .a + 2)) (upd ra (suc (o .shape .n)) (t .marks .a + len + 4)) e))
       (laid (laid ws (t .marks .a) (descriptor len m) (t .marks .a + (len + 4))) (t .marks .a + (len + 2)) (descriptor len m) 0)
-  make-on-agree on space named namedr q = enter k il record {
+  make-on-agree on space q = enter k il record {
     size =
         size-laid (laid ws (t .marks .a) (descriptor len m) (t .marks .a + (len + 4))) (t .marks .a + (len + 2)) (descriptor len m) 0
         ∙ size-laid ws (t .marks .a) (descriptor len m) (t .marks .a + (len + 4));
@@ -170,7 +167,7 @@ module _ {K : ℕ → Type 0} {pa ra : ℕ → ℕ} {o : State} {t : Table} {ws 
         write (addr pa′ ra′) _ _ [] (set first (t .marks .a + (len + 2)) (descriptor len m)) (R new 1) (t .marks .a + (len + 2) + 1) 0 apart′
         (write (addr pa′ ra′) _ _ (R new 1 ∷ []) first (R new 0) (t .marks .a + (len + 2)) (descriptor len m) apart′
         (laid-primary ra′ (R new 0 ∷ R new 1 ∷ []) (t .marks .a + (len + 4)) room apart′ (rw hd-new (omega (arith, ra-new)))
-        (block-frame v k len m room ra′ ra-old named (P new 0 ∷ P new 1 ∷ R new 0 ∷ R new 1 ∷ []) (inl refl) (inr (inl refl)) replicas))
+        (block-frame v k len m room ra′ ra-old (P new 0 ∷ P new 1 ∷ R new 0 ∷ R new 1 ∷ []) (inl refl) (inr (inl refl)) replicas))
         (held-new v k len m room, rw hd-new tt, tt) (omega (arith, ra-new)) (rw (upd-same (o .shape .len) new len, upd-same (o .shape .ptr) new m))
         (rw size-first (omega (arith, room2, spaces v k))))
         (held-new v k len m room, rw hd-new tt, tt) (omega (arith, ra-new)) (ap copyWord hd-new)
@@ -272,7 +269,7 @@ module _ {K : ℕ → Type 0} {pa ra : ℕ → ℕ} {o : State} {t : Table} {ws 
           rw (ra-old y d, upd-other (o .shape .ptr) new m y d)
           (k .mem (R y (suc (suc j))) (old y d (h .0), h .1, (omega (arith, h .2 .0, len-old y d), w)) (λ z. z)
           ∙ slot-word-same ra ra′ (o .shape .ptr y) j (o .rep y j)
-          (λ l. older-same v k ra (t .marks .a + len + 4) (o .rep y j) (namedr y j (old y d (h .0)) (h .1) w l)))
+          (λ l. older-same v k ra (t .marks .a + len + 4) (o .rep y j) (colours .target y j (h .1) w l .1)))
 
       replica-new : (u : ℕ) → Ok K sh′ (o .hd) has′ (t .marks .top) (end t) (R new u) → InLocs (R new u) (P new 0 ∷ P new 1 ∷ R new 0 ∷ R new 1 ∷ [])
       replica-new zero h = inr (inr (inl refl))

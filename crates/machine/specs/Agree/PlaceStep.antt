@@ -179,7 +179,7 @@ module _ {K : ℕ → Type 0} {pa ra : ℕ → ℕ} {o : State} {t : Table} {ws 
       → PlacedOr (placedThen (atThen pa th) (placeOf (t .marks) (end t) ws (primary (pa x)) len len .placed) (placeOf (t .marks) (end t) ws (primary (pa x)) len len .words))
   unfolding roomFor
   by-room true r =
-      let w = twin x len mid held un (omega arith) (v .shapes .written) (colours .target) r in
+      let w = twin x len mid held un (omega arith) (v .shapes .written) (λ y j a b c. colours .target y j a b c .0) r in
       rw (w .0) (inr (refl, placed-agree (w .1)))
   by-room false r = rw (no-room (t .marks) (end t) ws (pa x) len len r) (inl (refl, leb-false (twinNeed len len) (roomOf true (t .marks) (end t)) r))
 

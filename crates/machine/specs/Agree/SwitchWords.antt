@@ -30,6 +30,7 @@ use Rattle.machine.specs.Agree.Mem.{P, R, S, Holds}
 use Rattle.machine.specs.Agree.Agree.{Held, addr, Ok, content, Lay, bottom, end, Agree}
 use Rattle.machine.specs.Agree.Midway.{Midway}
 use Rattle.machine.specs.Agree.MidwayRead.{space-low, look-in, midway-of}
+use Rattle.machine.specs.Agree.Home.{Home}
 use Rattle.machine.specs.Agree.Rows.{all-take, first-map, length-first, getD-first, getD-behind}
 
 module _ {K : ℕ → Type 0} {pa ra : ℕ → ℕ} {o : State} {t : Table} {ws : List ℕ} (v : Inv K (t .limits .p) (t .limits .s) o) (k : Agree K pa ra o t ws)
@@ -187,3 +188,7 @@ module _ {K : ℕ → Type 0} {pa ra : ℕ → ℕ} {o : State} {t : Table} {ws 
     eight = length-first (t .limits .p) (newEntry ws s) (t .tasks) ∙ k .eight;
     tasks = entries-new;
   }
+
+  -- and lie in the space in use, below A
+  pub switch-home : Home K ra (switches o .shape) (bottom t) (t .marks .a)
+  switch-home x h = k .lay .where-r x h (placed x h)

@@ -26,8 +26,8 @@ last P n j p q l = on (ℕ-discrete j n)
 
 -- ---- the next slot of x has been written
 pub wrote-shapes : {K : ℕ → Type 0} {s : ℕ} {sh : Shape} {prim : ℕ → ℕ → ℕ} {hd : ℕ → Hd} (x : ℕ) → Shapes K s sh prim hd → sh .fill x < sh .len x
-    → Shapes K s (wroteOne sh x) prim hd
-wrote-shapes {sh = sh} x h l = record {
+    → (sh .fill x < sh .ptr x → prim x (sh .fill x) ≤ sh .n) → Shapes K s (wroteOne sh x) prim hd
+wrote-shapes {K} {sh = sh} {prim = prim} x h l here = record {
   kept = h .kept;
   none = h .none;
   nil = h .nil;
@@ -37,6 +37,8 @@ wrote-shapes {sh = sh} x h l = record {
   filled = upd-all (λ a w. sh .fill a ≤ w) (sh .wrote) x (suc (sh .fill x)) (omega arith) (λ a q. h .filled a);
   written = upd-all (λ a w. w ≤ sh .len a) (sh .wrote) x (suc (sh .fill x)) (omega arith) (λ a q. h .written a);
   closed = h .closed;
+  named = λ a j. upd-all (λ a w. K a → a ≤ sh .n → j < w → j < sh .ptr a → prim a j ≤ sh .n) (sh .wrote) x (suc (sh .fill x))
+      (λ k m f d. last (λ j. j < sh .ptr x → prim x j ≤ sh .n) (sh .fill x) j here (λ z. h .named x j k m (omega (arith, h .filled x))) f d) (λ a q. h .named a j) a;
 }
 
 pub wrote-colours : {K : ℕ → Type 0} {sh : Shape} {g : Snapshot} {hd : ℕ → Hd} {prim rep : ℕ → ℕ → ℕ} {has : ℕ → ℕ → Bool} {stack : List ℕ}
@@ -83,6 +85,7 @@ filled-shapes {K} {s} {sh} {prim} x h l w here = record {
       (upd-all (λ a f. K a → a ≤ sh .n → j < f → j < sh .ptr a → Sound K sh (prim a j)) (sh .fill) x (suc (sh .fill x))
       (λ k m f d. last (λ j. j < sh .ptr x → Sound K sh (prim x j)) (sh .fill x) j here (λ z. h .closed x j k m z) f d)
       (λ a q. h .closed a j) a k m f d);
+  named = h .named;
 }
 
 pub filled-colours : {K : ℕ → Type 0} {sh : Shape} {g : Snapshot} {hd : ℕ → Hd} {prim rep : ℕ → ℕ → ℕ} {has : ℕ → ℕ → Bool} {stack : List ℕ}

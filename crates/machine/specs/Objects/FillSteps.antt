@@ -80,13 +80,20 @@ module _ {K : ℕ → Type 0} {p s : ℕ} {o : State} (v : Inv K p s o) (t : ℕ
       let b : suc (o .shape .fill (x .0)) ≤ o .snap .fill (x .0) = (rw z at (c .bound (x .0))) tt in
       omega (arith, c .older (x .0))
 
+  -- what is written into its next slot, if that is a pointer slot
+  next-sound : (w : Operand) → isPointer w ≡ ltb (o .shape .fill (x .0)) (o .shape .ptr (x .0)) → SoundOperand K (o .shape) w
+      → o .shape .fill (x .0) < o .shape .ptr (x .0)
+      → Sound K (o .shape) (slot (o .prim) (x .0) (o .shape .fill (x .0)) (operandWord w) (x .0) (o .shape .fill (x .0)))
+  next-sound w q so m =
+      rw (slot-same (o .prim) (x .0) (o .shape .fill (x .0)) (operandWord w)) (pointer-sound K (o .shape) w (o .shape .fill (x .0)) _ q so m)
+
   -- the first write
   pub fill-writes : o .on ≡ true → (w : Operand) → o .tasks t .place ≡ FillWrite w
       → Inv K p s (halfFills o (x .0) (operandWord w) t (goes (o .tasks t) (lookAhead w ToFillCopy FillCopy)))
   unfolding holdingOf
   fill-writes on w pe =
       join t e v
-      (wrote-shapes (x .0) (slot-shapes (x .0) i (v .shapes) (slot-other (o .prim) (x .0) i (operandWord w)) (λ a b. absurd (omega arith))) (place .1 .0))
+      (wrote-shapes (x .0) (slot-shapes (x .0) i (v .shapes) (slot-other (o .prim) (x .0) i (operandWord w)) value) (place .1 .0) (λ m. value m .1))
       (rw on colours)
       (λ a z. z)
       (let b = v .entries t in record { eight = b .eight; regs = b .regs; pending = rw me made; storing = rw (place .0) tt })
@@ -125,6 +132,9 @@ module _ {K : ℕ → Type 0} {p s : ℕ} {o : State} (v : Inv K p s o) (t : ℕ
       place : (o .tasks t .storing ≡ Nowhere)
           × OfPending (Making x r len f) (λ x. (o .shape .fill x < o .shape .len x) × (isPointer w ≡ ltb (o .shape .fill x) (o .shape .ptr x))) × SoundOperand K (o .shape) w
       place = rw (pe, me) at (v .places t)
+
+      value : i < o .shape .ptr (x .0) → Sound K (o .shape) (prim′ (x .0) i)
+      value = next-sound w (place .1 .1) (place .2)
 
       c : Colours K (o .shape) (o .snap) (o .hd) (o .prim) (o .rep) (o .has) (o .stack) (Late (o .tasks))
       c = rw on at (v .mode)
@@ -210,7 +220,8 @@ module _ {K : ℕ → Type 0} {p s : ℕ} {o : State} (v : Inv K p s o) (t : ℕ
         early = λ a j d. late-before (o .tasks) t e a j (λ z. absurd (z .1));
         written = λ z a b. absurd (omega arith);
         copied = λ z a b. inl same;
-        target = λ z a b. rw (slot-same (o .rep) (x .0) i (copiedWord c)) (renamed-sound K (o .shape) (o .hd) c i _ (half .3) (place .2) b .1);
+        target = λ z a b. let q = renamed-sound K (o .shape) (o .hd) c i _ (half .3) (place .2) b in
+            rw (slot-same (o .rep) (x .0) i (copiedWord c)) (q .1, q .0 .1);
         saw = λ a b. absurd (omega (arith, g .older (x .0)));
       }) (slot-same (o .has) (x .0) i true) same
 
@@ -221,9 +232,9 @@ module _ {K : ℕ → Type 0} {p s : ℕ} {o : State} (v : Inv K p s o) (t : ℕ
   fill-off off w pe =
       join t e v
       (filled-shapes (x .0)
-      (wrote-shapes (x .0) (slot-shapes (x .0) i (v .shapes) (slot-other (o .prim) (x .0) i (operandWord w)) (λ a b. absurd (omega arith))) (place .1 .0))
+      (wrote-shapes (x .0) (slot-shapes (x .0) i (v .shapes) (slot-other (o .prim) (x .0) i (operandWord w)) value) (place .1 .0) (λ m. value m .1))
       (place .1 .0) (upd-same (o .shape .wrote) (x .0) (suc i))
-      (λ m. rw (slot-same (o .prim) (x .0) i (operandWord w)) (pointer-sound K (o .shape) w i _ (place .1 .1) (place .2) m)))
+      value)
       (rw off (rw off at (v .mode)))
       sound
       (end .mine)
@@ -259,6 +270,9 @@ module _ {K : ℕ → Type 0} {p s : ℕ} {o : State} (v : Inv K p s o) (t : ℕ
       place : (o .tasks t .storing ≡ Nowhere)
           × OfPending (Making x r len f) (λ x. (o .shape .fill x < o .shape .len x) × (isPointer w ≡ ltb (o .shape .fill x) (o .shape .ptr x))) × SoundOperand K (o .shape) w
       place = rw (pe, me) at (v .places t)
+
+      value : i < o .shape .ptr (x .0) → Sound K (o .shape) (slot (o .prim) (x .0) i (operandWord w) (x .0) i)
+      value = next-sound w (place .1 .1) (place .2)
 
       sound : (a : ℕ) → Sound K (o .shape) a → Sound K sh′ a
       sound = filled-sound K (wroteOne (o .shape) (x .0)) (x .0) (place .1 .0)

@@ -181,6 +181,7 @@ module _ (K : ℕ → Type 0) (p s : ℕ) (o : State) (v : Inv K p s o) (rest : 
     filled = v .shapes .filled;
     written = v .shapes .written;
     closed = λ x j q l a b. let m = v .shapes .closed x j (q .0) l a b in ((m .0, λ r. edge j (q .1 l) a b), m .1, m .2);
+    named = λ x j q. v .shapes .named x j (q .0);
   }
 
   flip-colours : Colours K′ sh (foundIn o vs) hd′ (o .prim) (o .rep) has′ (stack) (Late ts′)
@@ -218,8 +219,8 @@ module _ (K : ℕ → Type 0) (p s : ℕ) (o : State) (v : Inv K p s o) (rest : 
           )
 
       -- no slot of a replica is written yet, and nil has none
-      target : (x j : ℕ) → IsPlaced (hd′ x) → has′ x j ≡ true → j < sh .ptr x → IsPlaced (hd′ (o .rep x j))
-      target x j = by (λ x h. IsPlaced h → has′ x j ≡ true → j < sh .ptr x → IsPlaced (hd′ (o .rep x j)))
+      target : (x j : ℕ) → IsPlaced (hd′ x) → has′ x j ≡ true → j < sh .ptr x → IsPlaced (hd′ (o .rep x j)) × (o .rep x j ≤ sh .n)
+      target x j = by (λ x h. IsPlaced h → has′ x j ≡ true → j < sh .ptr x → IsPlaced (hd′ (o .rep x j)) × (o .rep x j ≤ sh .n))
           (λ x i a b q e l. off-on (sym (k .blank x j i a b) ∙ e)) (λ x i a b q e l. absurd q)
           (λ q e l. absurd (omega (arith, v .shapes .low 0 (omega arith), v .shapes .none))) (λ x m q e l. off-on (sym (k .untouched x j m) ∙ e)) x
 

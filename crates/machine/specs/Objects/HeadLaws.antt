@@ -84,7 +84,7 @@ pub record HeadOk (K : ℕ → Type 0) (sh : Shape) (g : Snapshot) (hd : ℕ →
   pub other : (x j : ℕ) → x ≢ y → has′ x j ≡ has x j
   pub written : IsPlaced h → (j : ℕ) → left (sh .len y) h ≤ j → j < sh .fill y → has′ y j ≡ true
   pub copied : IsPlaced h → (j : ℕ) → left (sh .len y) h ≤ j → j < sh .fill y → (rep y j ≡ prim y j) ⊎ Lt y j
-  pub target : IsPlaced h → (j : ℕ) → has′ y j ≡ true → j < sh .ptr y → IsPlaced (hd (rep y j))
+  pub target : IsPlaced h → (j : ℕ) → has′ y j ≡ true → j < sh .ptr y → IsPlaced (hd (rep y j)) × (rep y j ≤ sh .n)
   -- a slot that is no longer to copy pointed to what is seen
   pub saw : (j : ℕ) → j < sh .ptr y → j < left (sh .len y) h₀ → prim y j ≡ g .slots y j → (Lt y j → ⊥)
       → IsSeen (hd (g .slots y j)) ⊎ (j < left (sh .len y) h)
@@ -110,8 +110,8 @@ head-colours {K} {sh} {g} {hd} {prim} {rep} {has} {has′} {stack} {st} {Lt} {y}
   copied = λ x j.
       upd-all (λ x o. IsPlaced o → left (sh .len x) o ≤ j → j < sh .fill x → (rep x j ≡ prim x j) ⊎ Lt x j) hd y h (λ p. k .copied p j) (λ x q. c .copied x j) x;
   target = λ x j.
-      upd-all (λ x o. IsPlaced o → has′ x j ≡ true → j < sh .ptr x → IsPlaced (upd hd y h (rep x j))) hd y h (λ p w m. placed _ (k .target p j w m))
-      (λ x q p w m. placed _ (c .target x j p (sym (k .other x j q) ∙ w) m)) x;
+      upd-all (λ x o. IsPlaced o → has′ x j ≡ true → j < sh .ptr x → IsPlaced (upd hd y h (rep x j)) × (rep x j ≤ sh .n)) hd y h
+      (λ p w m. let z = k .target p j w m in (placed _ (z .0), z .1)) (λ x q p w m. let z = c .target x j p (sym (k .other x j q) ∙ w) m in (placed _ (z .0), z .1)) x;
   saw = λ x j l m.
       upd-all (λ x o. j < sh .ptr x → Before x j → Saw x j o) hd y h (λ m. at-y j m) (λ x q m. away x j) x m (c .saw x j l m);
   roots = λ x i. seen x (c .roots x i);
@@ -236,6 +236,7 @@ head-inv {K} {p} {s} o {has′} {st} {y} {h₀} {h} t pl v k c = task-inv v reco
   filled = v .shapes .filled;
   written = v .shapes .written;
   closed = v .shapes .closed;
+  named = v .shapes .named;
 } (rw (k .on) colours)
   where
     placed : IsPlaced (o .hd y) → IsPlaced h

@@ -42,7 +42,7 @@ abbrev pub SoundCopied : (ℕ → Type 0) → Shape → (ℕ → Hd) → Copied 
 SoundCopied K sh hd (Same w) = Unit {0}
 SoundCopied K sh hd (Renamed r) = Sound K sh (r .0) × IsPlaced (hd (r .0))
 
--- nil is kept, has no slot, and counts as placed; pointers in filled slots of kept objects are sound
+-- nil is kept, has no slot, and counts as placed; pointers in filled slots of kept objects are sound, those in written slots name objects made
 pub record Shapes (K : ℕ → Type 0) (s : ℕ) (sh : Shape) (prim : ℕ → ℕ → ℕ) (hd : ℕ → Hd) : Type 0 where
   pub kept : K 0
   pub none : sh .len 0 ≡ 0
@@ -53,6 +53,7 @@ pub record Shapes (K : ℕ → Type 0) (s : ℕ) (sh : Shape) (prim : ℕ → �
   pub filled : (x : ℕ) → sh .fill x ≤ sh .wrote x
   pub written : (x : ℕ) → sh .wrote x ≤ sh .len x
   pub closed : (x j : ℕ) → K x → x ≤ sh .n → j < sh .fill x → j < sh .ptr x → Sound K sh (prim x j)
+  pub named : (x j : ℕ) → K x → x ≤ sh .n → j < sh .wrote x → j < sh .ptr x → prim x j ≤ sh .n
 
 -- ---- headers and copies, while collecting; Lt: which slots a late Store is on
 -- what the snapshot leads to from what the flip placed
@@ -72,10 +73,10 @@ pub record Colours (K : ℕ → Type 0) (sh : Shape) (g : Snapshot) (hd : ℕ �
   pub older : (x : ℕ) → g .fill x ≤ sh .fill x
   -- made since the flip: nothing to copy
   pub newer : (x : ℕ) → g .n < x → hd x ≡ count 0
-  -- a copied slot: written, and the same as in the primary or a late Store is on it; what a written slot points to is placed
+  -- a copied slot: written, and the same as in the primary or a late Store is on it; what a written slot points to is placed and made
   pub written : (x j : ℕ) → IsPlaced (hd x) → left (sh .len x) (hd x) ≤ j → j < sh .fill x → has x j ≡ true
   pub copied : (x j : ℕ) → IsPlaced (hd x) → left (sh .len x) (hd x) ≤ j → j < sh .fill x → (rep x j ≡ prim x j) ⊎ Lt x j
-  pub target : (x j : ℕ) → IsPlaced (hd x) → has x j ≡ true → j < sh .ptr x → IsPlaced (hd (rep x j))
+  pub target : (x j : ℕ) → IsPlaced (hd x) → has x j ≡ true → j < sh .ptr x → IsPlaced (hd (rep x j)) × (rep x j ≤ sh .n)
   -- what a slot pointed to at the flip: seen, or still there in a slot still to copy with no late Store on it
   pub saw : (x j : ℕ) → j < g .fill x → j < sh .ptr x
       → IsSeen (hd (g .slots x j)) ⊎ ((j < left (sh .len x) (hd x)) × (prim x j ≡ g .slots x j) × (Lt x j → ⊥))

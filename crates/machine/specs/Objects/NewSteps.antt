@@ -76,6 +76,9 @@ module _ (sh : Shape) (len m : ℕ) where
         (λ k l f d. absurd (omega (arith, upd-same (sh .fill) (suc (sh .n)) 0)))
         (λ x q k l f d. more-sound K (prim x j)
         (h .closed x j k (omega arith) (omega (arith, more-fill x (omega arith))) (omega (arith, more-ptr x (omega arith))))) x;
+    named = λ x j. at-one (suc (sh .n)) (λ x. K x → x ≤ suc (sh .n) → j < oneMore sh len m .wrote x → j < oneMore sh len m .ptr x → prim x j ≤ suc (sh .n))
+        (λ k l f d. absurd (omega (arith, upd-same (sh .wrote) (suc (sh .n)) 0)))
+        (λ x q k l f d. let z = h .named x j k (omega arith) (omega (arith, more-wrote x (omega arith))) (omega (arith, more-ptr x (omega arith))) in omega arith) x;
   }
 
   more-colours : {K : ℕ → Type 0} {g : Snapshot} {hd : ℕ → Hd} {prim rep : ℕ → ℕ → ℕ} {has : ℕ → ℕ → Bool} {stack : List ℕ} {Lt : ℕ → ℕ → Type 0}
@@ -97,9 +100,9 @@ module _ (sh : Shape) (len m : ℕ) where
     copied = λ a j. at-one new (λ a. IsPlaced (hd a) → left (oneMore sh len m .len a) (hd a) ≤ j → j < oneMore sh len m .fill a → (rep a j ≡ prim a j) ⊎ Lt a j)
         (λ p l f. absurd (omega (arith, upd-same (sh .fill) new 0)))
         (λ a q. rw (upd-other (sh .len) new len a q, upd-other (sh .fill) new 0 a q) (c .copied a j)) a;
-    target = λ a j. at-one new (λ a. IsPlaced (hd a) → upd has new (λ j. false) a j ≡ true → j < oneMore sh len m .ptr a → IsPlaced (hd (rep a j)))
+    target = λ a j. at-one new (λ a. IsPlaced (hd a) → upd has new (λ j. false) a j ≡ true → j < oneMore sh len m .ptr a → IsPlaced (hd (rep a j)) × (rep a j ≤ suc (sh .n)))
         (λ p h d. off-on (rw (upd-same has new (λ j. false)) at h))
-        (λ a q. rw (upd-other (sh .ptr) new m a q, upd-other has new (λ j. false) a q) (c .target a j)) a;
+        (λ a q p h d. let z = c .target a j p (rw (upd-other has new (λ j. false) a q) at h) (rw (upd-other (sh .ptr) new m a q) at d) in (z .0, omega (arith, z .1))) a;
     saw = λ a j. at-one new
         (λ a. j < g .fill a → j < oneMore sh len m .ptr a
         → IsSeen (hd (g .slots a j)) ⊎ ((j < left (oneMore sh len m .len a) (hd a)) × (prim a j ≡ g .slots a j) × (Lt a j → ⊥)))

@@ -129,7 +129,7 @@ reads {K} {p} {s} o t n x i v l ep = by (ltb i (o .shape .ptr (x .0))) refl
 
 -- ---- put: the locked slot of the replica is written
 put-colours : {K : ℕ → Type 0} {sh : Shape} {g : Snapshot} {hd : ℕ → Hd} {prim rep : ℕ → ℕ → ℕ} {has : ℕ → ℕ → Bool} {stack : List ℕ}
-    {Lt : ℕ → ℕ → Type 0} (x i t w : ℕ) → Colours K sh g hd prim rep has stack Lt → hd x ≡ locked i t → (i < sh .ptr x → IsPlaced (hd w))
+    {Lt : ℕ → ℕ → Type 0} (x i t w : ℕ) → Colours K sh g hd prim rep has stack Lt → hd x ≡ locked i t → (i < sh .ptr x → IsPlaced (hd w) × (w ≤ sh .n))
     → Colours K sh g hd prim (slot rep x i w) (slot has x i true) stack Lt
 put-colours {K} {sh} {g} {hd} {prim} {rep} {has} {stack} {Lt} x i t w c e f = record {
   stacked = c .stacked;
@@ -147,7 +147,7 @@ put-colours {K} {sh} {g} {hd} {prim} {rep} {has} {stack} {Lt} x i t w c e f = re
       at-slot x i (λ a j. IsPlaced (hd a) → left (sh .len a) (hd a) ≤ j → j < sh .fill a → (slot rep x i w a j ≡ prim a j) ⊎ Lt a j)
       (λ p l m. let z : suc i ≤ i = rw e at l in absurd (omega arith)) (λ a j d p l m. rw (slot-other rep x i w a j d) (c .copied a j p l m));
   target =
-      at-slot x i (λ a j. IsPlaced (hd a) → slot has x i true a j ≡ true → j < sh .ptr a → IsPlaced (hd (slot rep x i w a j)))
+      at-slot x i (λ a j. IsPlaced (hd a) → slot has x i true a j ≡ true → j < sh .ptr a → IsPlaced (hd (slot rep x i w a j)) × (slot rep x i w a j ≤ sh .n))
       (λ p h m. rw (slot-same rep x i w) (f m))
       (λ a j d p h m. rw (slot-other rep x i w a j d) (c .target a j p (sym (slot-other has x i true a j d) ∙ h) m));
   saw = c .saw;
@@ -156,10 +156,10 @@ put-colours {K} {sh} {g} {hd} {prim} {rep} {has} {stack} {Lt} x i t w c e f = re
   known = c .known;
 }
 
--- a value for a pointer slot leads to what is placed
-copied-placed : (K : ℕ → Type 0) (sh : Shape) (hd : ℕ → Hd) (c : Copied) → isRenamed c ≡ true → SoundCopied K sh hd c → IsPlaced (hd (copiedWord c))
+-- a value for a pointer slot leads to what is placed and made
+copied-placed : (K : ℕ → Type 0) (sh : Shape) (hd : ℕ → Hd) (c : Copied) → isRenamed c ≡ true → SoundCopied K sh hd c → IsPlaced (hd (copiedWord c)) × (copiedWord c ≤ sh .n)
 copied-placed K sh hd (Same w) e h = off-on e
-copied-placed K sh hd (Renamed r) e h = h .1
+copied-placed K sh hd (Renamed r) e h = (h .1, h .0 .1)
 
 pub puts : {K : ℕ → Type 0} {p s : ℕ} (o : State) (t n : ℕ) (x : Primary) (i : ℕ) (c : Copied) → Inv K p s o → t < p → o .tasks t .place ≡ Put n x i c
     → Inv K p s (copies o (x .0) i (copiedWord c) t (goes (o .tasks t) (Release n x i)))
@@ -263,7 +263,7 @@ release-ok {K} {sh} {g} {hd} {prim} {rep} {has} {stack} {Lt} x i t c m e w same 
 
     -- the slot just copied agrees, so what it points to is placed
     seen : (rep x i ≡ prim x i) ⊎ Lt x i → i < sh .ptr x → prim x i ≡ g .slots x i → (Lt x i → ⊥) → IsPlaced (hd (g .slots x i))
-    seen (inl a) n q z = rw (sym q ∙ sym a) ((rw e at (c .target x i)) tt w n)
+    seen (inl a) n q z = rw (sym q ∙ sym a) ((rw e at (c .target x i)) tt w n .0)
     seen (inr a) n q z = absurd (z a)
 
     sn : (j : ℕ) → j < sh .ptr x → j < suc i → prim x j ≡ g .slots x j → (Lt x j → ⊥) → Dec (j ≡ i) → IsSeen (hd (g .slots x j)) ⊎ (j < i)

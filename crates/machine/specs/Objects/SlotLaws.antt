@@ -26,7 +26,7 @@ pub record SlotOk (sh : Shape) (g : Snapshot) (hd : ℕ → Hd) (prim prim′ re
   pub early : (a j : ℕ) → Elsewhere x i a j → Lt′ a j → Lt a j
   pub written : IsPlaced (hd x) → left (sh .len x) (hd x) ≤ i → i < sh .fill x → has′ x i ≡ true
   pub copied : IsPlaced (hd x) → left (sh .len x) (hd x) ≤ i → i < sh .fill x → (rep′ x i ≡ prim′ x i) ⊎ Lt′ x i
-  pub target : IsPlaced (hd x) → has′ x i ≡ true → i < sh .ptr x → IsPlaced (hd (rep′ x i))
+  pub target : IsPlaced (hd x) → has′ x i ≡ true → i < sh .ptr x → IsPlaced (hd (rep′ x i)) × (rep′ x i ≤ sh .n)
   pub saw : i < g .fill x → i < sh .ptr x
       → IsSeen (hd (g .slots x i)) ⊎ ((i < left (sh .len x) (hd x)) × (prim′ x i ≡ g .slots x i) × (Lt′ x i → ⊥))
 
@@ -45,7 +45,7 @@ slot-colours {K} {sh} {g} {hd} {prim} {prim′} {rep} {rep′} {has} {has′} {s
       (λ a j q p l m. k .other a j q .2 ∙ c .written a j p l m);
   copied = at-slot x i (λ a j. IsPlaced (hd a) → left (sh .len a) (hd a) ≤ j → j < sh .fill a → (rep′ a j ≡ prim′ a j) ⊎ Lt′ a j) (k .copied)
       (λ a j q p l m. same a j q (c .copied a j p l m));
-  target = at-slot x i (λ a j. IsPlaced (hd a) → has′ a j ≡ true → j < sh .ptr a → IsPlaced (hd (rep′ a j))) (k .target)
+  target = at-slot x i (λ a j. IsPlaced (hd a) → has′ a j ≡ true → j < sh .ptr a → IsPlaced (hd (rep′ a j)) × (rep′ a j ≤ sh .n)) (k .target)
       (λ a j q p h l. rw (k .other a j q .1) (c .target a j p (sym (k .other a j q .2) ∙ h) l));
   saw = at-slot x i (λ a j. j < g .fill a → j < sh .ptr a → IsSeen (hd (g .slots a j)) ⊎ ((j < left (sh .len a) (hd a)) × (prim′ a j ≡ g .slots a j) × (Lt′ a j → ⊥)))
       (k .saw) (λ a j q l m. still a j q (c .saw a j l m));
@@ -65,7 +65,7 @@ slot-colours {K} {sh} {g} {hd} {prim} {prim′} {rep} {rep′} {has} {has′} {s
 
 -- a slot of a primary changes
 pub slot-shapes : {K : ℕ → Type 0} {s : ℕ} {sh : Shape} {prim prim′ : ℕ → ℕ → ℕ} {hd : ℕ → Hd} (x i : ℕ)
-    → Shapes K s sh prim hd → ((a j : ℕ) → Elsewhere x i a j → prim′ a j ≡ prim a j) → (i < sh .fill x → i < sh .ptr x → Sound K sh (prim′ x i)) → Shapes K s sh prim′ hd
+    → Shapes K s sh prim hd → ((a j : ℕ) → Elsewhere x i a j → prim′ a j ≡ prim a j) → (i < sh .ptr x → Sound K sh (prim′ x i)) → Shapes K s sh prim′ hd
 slot-shapes {K} {s} {sh} {prim} {prim′} {hd} x i h other here = record {
   kept = h .kept;
   none = h .none;
@@ -75,8 +75,10 @@ slot-shapes {K} {s} {sh} {prim} {prim′} {hd} x i h other here = record {
   high = h .high;
   filled = h .filled;
   written = h .written;
-  closed = at-slot x i (λ a j. K a → a ≤ sh .n → j < sh .fill a → j < sh .ptr a → Sound K sh (prim′ a j)) (λ y m l d. here l d)
+  closed = at-slot x i (λ a j. K a → a ≤ sh .n → j < sh .fill a → j < sh .ptr a → Sound K sh (prim′ a j)) (λ y m l d. here d)
       (λ a j q y m l d. rw (other a j q) (h .closed a j y m l d));
+  named = at-slot x i (λ a j. K a → a ≤ sh .n → j < sh .wrote a → j < sh .ptr a → prim′ a j ≤ sh .n) (λ y m l d. here d .1)
+      (λ a j q y m l d. rw (other a j q) (h .named a j y m l d));
 }
 
 -- which Stores are late, told otherwise

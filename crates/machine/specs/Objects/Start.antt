@@ -46,6 +46,7 @@ start-inv g p s = record {
     filled = λ x. omega arith;
     written = λ x. omega arith;
     closed = λ x j k l f d. absurd (omega arith);
+    named = λ x j k l f d. omega arith;
   };
   mode = record { all = λ x l. upd-other (λ x. white) 0 (count 0) x (λ e. absurd (omega arith)); empty = refl };
   eight = refl;

@@ -63,7 +63,7 @@ module _ {K : ℕ → Type 0} {p s : ℕ} {o : State} (v : Inv K p s o) (t : ℕ
   store-writes on w pe =
       join t e v
       (slot-shapes (x .0) i (v .shapes) (slot-other (o .prim) (x .0) i (operandWord w))
-      (λ f m. rw (slot-same (o .prim) (x .0) i (operandWord w)) (pointer-sound K (o .shape) w i _ (place .0 .0) (place .1) m)))
+      (λ m. rw (slot-same (o .prim) (x .0) i (operandWord w)) (pointer-sound K (o .shape) w i _ (place .0 .0) (place .1) m)))
       (rw on colours)
       (λ a z. z)
       (goes-entry (Meet w) (v .entries t))
@@ -114,7 +114,7 @@ module _ {K : ℕ → Type 0} {p s : ℕ} {o : State} (v : Inv K p s o) (t : ℕ
   store-writes-off off w pe =
       join t (o .tasks t) v
       (slot-shapes (x .0) i (v .shapes) (slot-other (o .prim) (x .0) i (operandWord w))
-      (λ f m. rw (slot-same (o .prim) (x .0) i (operandWord w)) (pointer-sound K (o .shape) w i _ (place .0 .0) (place .1) m)))
+      (λ m. rw (slot-same (o .prim) (x .0) i (operandWord w)) (pointer-sound K (o .shape) w i _ (place .0 .0) (place .1) m)))
       (rw off white-all)
       (λ a z. z)
       (v .entries t)
@@ -278,6 +278,7 @@ module _ {K : ℕ → Type 0} {p s : ℕ} {o : State} (v : Inv K p s o) (t : ℕ
         early = λ a j d. early a j;
         written = λ z a b. slot-same (o .has) (x .0) i true;
         copied = λ z a b. inl same;
-        target = λ z a b. rw (slot-same (o .rep) (x .0) i (copiedWord c)) (renamed-sound K (o .shape) (o .hd) c i _ (place .1 .0) (place .2) b .1);
+        target = λ z a b. let q = renamed-sound K (o .shape) (o .hd) c i _ (place .1 .0) (place .2) b in
+            rw (slot-same (o .rep) (x .0) i (copiedWord c)) (q .1, q .0 .1);
         saw = λ a b. still (o .snap .slots (x .0) i) (g .saw (x .0) i a b);
       }

@@ -30,6 +30,7 @@ switch-inv {K} {p} {s} {o} v idle = record {
     filled = λ x. omega (arith, v .shapes .filled x);
     written = λ x. omega (arith, v .shapes .filled x, v .shapes .written x);
     closed = v .shapes .closed;
+    named = λ x j k l a b. v .shapes .closed x j k l a b .1;
   };
   mode = record { all = λ x l. upd-other (λ (x : ℕ). white) 0 (count 0) x (λ e. omega arith); empty = refl };
   eight = v .eight;

@@ -25,9 +25,10 @@ use Rattle.machine.specs.Objects.Inv.{Inv}
 use Rattle.machine.specs.Objects.Ops.{switches}
 use Rattle.machine.specs.Objects.Final.{final}
 use Rattle.machine.specs.Objects.SwitchInv.{switch-inv}
-use Rattle.machine.specs.Agree.Agree.{Agree}
+use Rattle.machine.specs.Agree.Agree.{Agree, bottom}
+use Rattle.machine.specs.Agree.Home.{Home}
 use Rattle.machine.specs.Agree.Search.{not-grey, all-idle}
-use Rattle.machine.specs.Agree.SwitchWords.{switch-is, switch-agree}
+use Rattle.machine.specs.Agree.SwitchWords.{switch-is, switch-agree, switch-home}
 use Rattle.machine.specs.Promises.Still.{Still}
 use Rattle.machine.specs.Promises.StillLaws.{still-shape}
 use Rattle.machine.specs.Promises.Good.{Good, Undamaged, Comes}
@@ -54,16 +55,16 @@ module _ {l : Limits} {w : Store} {t : Table} {ws : List ℕ} (g : Good l w t ws
   -- the action left the objects o, the words ws′ and the marks m; the store is w′
   pub finishes : (K : ℕ → Type 0) (pa ra : ℕ → ℕ) (o : State) (ws′ : List ℕ) (m : Marks) (pending : Pending) (x : Answer) (w′ : Store) → Undamaged x
       → ((after : Place) → happenAll w i (stepKinds x before after) ≡ w′) → Inv K (t .limits .p) (t .limits .s) o → Agree K pa ra o (endedTable t i m pending) ws′
-      → Still (o .shape) (o .prim) (o .tasks) (o .roots) w′ → Comes l w i before X (finishOf t ws′ i m pending x)
+      → (o .on ≡ false → Home K pa (o .shape) (bottom t) (m .a)) → Still (o .shape) (o .prim) (o .tasks) (o .roots) w′ → Comes l w i before X (finishOf t ws′ i m pending x)
   unfolding finishOf
-  finishes K pa ra o ws′ m pending x w′ und kinds inv agree still = on (switchDue (endedTable t i m pending)) refl
+  finishes K pa ra o ws′ m pending x w′ und kinds inv agree home still = on (switchDue (endedTable t i m pending)) refl
     where
       on : (b : Bool) → switchDue (endedTable t i m pending) ≡ b
           → Comes l w i before X (ends (pick b (switchOf t (endedTable t i m pending) ws′ x) (out (endedTable t i m pending) x)) ws′)
       on false e =
           inr (
             rw (kinds (taskAt (endedTable t i m pending) i .place))
-                (record { kept = K; pa = pa; ra = ra; objects = o; limits = g .limits; long = g .long; inv = inv; agree = agree; still = still }),
+                (record { kept = K; pa = pa; ra = ra; objects = o; limits = g .limits; long = g .long; inv = inv; agree = agree; home = home; still = still }),
             und,
           )
       on true e =
@@ -84,6 +85,7 @@ module _ {l : Limits} {w : Store} {t : Table} {ws : List ℕ} (g : Good l w t ws
                   long = g .long;
                   inv = switch-inv inv idle;
                   agree = switch-agree inv agree live idle done (h .0);
+                  home = λ f. switch-home inv agree live idle done (h .0);
                   still = still-switches o still;
                 }),
             und,

@@ -20,10 +20,12 @@ use Rattle.table.specs.declared.Answer.the-variants.{Accepted, Done, Value, Mov
 use Rattle.machine.specs.Entries.{noTask, taskAt, movedTable, out, Ends, ends}
 use Rattle.machine.specs.StillStore.{Store, Kind, happenAll}
 use Rattle.machine.specs.Kinds.{movedKinds, stepKinds}
+use Rattle.machine.specs.Objects.Base.{off-on}
 use Rattle.machine.specs.Objects.State.{State}
 use Rattle.machine.specs.Objects.Inv.{Inv}
 use Rattle.machine.specs.Agree.Encode.{atTask}
-use Rattle.machine.specs.Agree.Agree.{Agree}
+use Rattle.machine.specs.Agree.Agree.{Agree, bottom}
+use Rattle.machine.specs.Agree.Home.{Home}
 use Rattle.machine.specs.Agree.Enter.{entered}
 use Rattle.machine.specs.Promises.Still.{Still}
 
@@ -37,6 +39,7 @@ pub record Good (l : Limits) (w : Store) (t : Table) (ws : List ℕ) : Type 1 wh
   pub long : 1 ≤ t .limits .s
   pub inv : Inv kept (t .limits .p) (t .limits .s) objects
   pub agree : Agree kept pa ra objects t ws
+  pub home : objects .on ≡ false → Home kept pa (objects .shape) (bottom t) (t .marks .a)
   pub still : Still (objects .shape) (objects .prim) (objects .tasks) (objects .roots) w
 
 -- not refusal 11
@@ -72,14 +75,14 @@ place-entered t m i e n l = getD-set-same (t .tasks) i e noTask (omega arith)
 
 -- the task moved on
 module _ {l : Limits} {w : Store} {t : Table} {ws : List ℕ} (g : Good l w t ws) (i : ℕ) (below : i < 8) where
-  pub comes-moved : (before : Place) (X : Type 0) (K : ℕ → Type 0) (pa ra : ℕ → ℕ) (o : State) (m : Marks) (pending : Pending) (place : Place) (e : Task) (ws′ : List ℕ)
+  pub comes-moved : (before : Place) (X : Type 0) (K : ℕ → Type 0) (pa ra : ℕ → ℕ) (o : State) → o .on ≡ true → (m : Marks) (pending : Pending) (place : Place) (e : Task) (ws′ : List ℕ)
       → movedTable t i m pending place ≡ entered t m i (atTask pa ra e) → Inv K (t .limits .p) (t .limits .s) o → Agree K pa ra o (entered t m i (atTask pa ra e)) ws′
       → Still (o .shape) (o .prim) (o .tasks) (o .roots) (happenAll w i (movedKinds before (atTask pa ra e .place)))
       → Comes l w i before X (ends (out (movedTable t i m pending place) Moved) ws′)
-  comes-moved before X K pa ra o m pending place e ws′ q inv agree still =
+  comes-moved before X K pa ra o live m pending place e ws′ q inv agree still =
       inr (
         rw (q, place-entered t m i (atTask pa ra e) (g .agree .eight) below)
-            (record { kept = K; pa = pa; ra = ra; objects = o; limits = g .limits; long = g .long; inv = inv; agree = agree; still = still }),
+            (record { kept = K; pa = pa; ra = ra; objects = o; limits = g .limits; long = g .long; inv = inv; agree = agree; home = λ f. off-on (sym f ∙ live); still = still }),
         tt,
       )
 

@@ -30,6 +30,7 @@ use Rattle.machine.specs.Objects.Base.{upd}
 use Rattle.machine.specs.Objects.State.{Hd, white, claimed, count, locked, State, IsPlaced, jobsIn}
 use Rattle.machine.specs.Objects.Inv.{Inv, Sound, ThenOk}
 use Rattle.machine.specs.Objects.Ops.{goes, moves, heads, twins}
+use Rattle.machine.specs.Objects.MoveLaws.{at-place}
 use Rattle.machine.specs.Objects.HeadSteps.{look-claims, look-goes, places}
 use Rattle.machine.specs.Agree.Encode.{atPrimary, atThen, atPlace, atTask}
 use Rattle.machine.specs.Agree.Agree.{Agree, Held, end}
@@ -84,7 +85,7 @@ module _ {l : Limits} {w : Store} {t : Table} {ws : List ℕ} (g : Good l w t ws
     unfolding happenAll
     goes-on d =
         comes-moved g i (below g i ip) (atPlace (g .pa) (g .ra) (Looking q th)) X (g .kept) (g .pa) (g .ra)
-        (moves (g .objects) i (goes (g .objects .tasks i) (goOn th (replica (q .0))))) (t .marks) _ _ (goes (g .objects .tasks i) (goOn th (replica (q .0)))) ws
+        (moves (g .objects) i (goes (g .objects .tasks i) (goOn th (replica (q .0))))) (place .0) (t .marks) _ _ (goes (g .objects .tasks i) (goOn th (replica (q .0)))) ws
         (rw (at-on (g .pa) (g .ra) th (q .0)) (moved-goes g i ip (t .marks) (goOn th (replica (q .0))))) (look-goes (g .objects) i q th (g .inv) ip pe d)
         (moves-agree (g .inv) (g .agree) i ip (goes (g .objects .tasks i) (goOn th (replica (q .0)))) (t .marks .j)
         (rw (pe, look-jobs q th (q .0)) refl) (omega arith))
@@ -97,7 +98,7 @@ module _ {l : Limits} {w : Store} {t : Table} {ws : List ℕ} (g : Good l w t ws
     unfolding happenAll
     claims d =
         comes-moved g i (below g i ip) (atPlace (g .pa) (g .ra) (Looking q th)) X (g .kept) (g .pa) (g .ra)
-        (heads (g .objects) (q .0) (claimed i) (g .objects .stack) i (goes (g .objects .tasks i) (Placing q th))) (t .marks) _ _
+        (heads (g .objects) (q .0) (claimed i) (g .objects .stack) i (goes (g .objects .tasks i) (Placing q th))) (place .0) (t .marks) _ _
         (goes (g .objects .tasks i) (Placing q th)) (set ws (g .pa (q .0) - 1) 1) (moved-goes g i ip (t .marks) (Placing q th))
         (look-claims (g .objects) i q th (g .inv) ip pe d)
         (claim-agree (g .inv) (g .agree) i ip (goes (g .objects .tasks i) (Placing q th)) (q .0) held d (rw (pe, claim-jobs q th) refl))
@@ -145,7 +146,7 @@ module _ {l : Limits} {w : Store} {t : Table} {ws : List ℕ} (g : Good l w t ws
       on (inr h) =
           rw (h .0)
           (comes-moved g i (below g i ip) (atPlace (g .pa) (g .ra) (Placing q th)) X (g .kept) (g .pa) (upd (g .ra) (q .0) (t .marks .a + 2))
-          (moves (twins (g .objects) (q .0) (g .objects .shape .len (q .0))) i (goes (g .objects .tasks i) (goOn th (replica (q .0))))) _ _ _
+          (moves (twins (g .objects) (q .0) (g .objects .shape .len (q .0))) i (goes (g .objects .tasks i) (goOn th (replica (q .0))))) (at-place (g .inv) i (Placing q th) pe .0) _ _ _
           (goes (g .objects .tasks i) (goOn th (replica (q .0)))) _ (placed-moved (g .inv) (g .agree) i q th ip pe _)
           (places (g .objects) i q th (g .inv) ip pe) (h .1)
           (still-goes (g .still) i (below g i ip) (goOn th (replica (q .0)))

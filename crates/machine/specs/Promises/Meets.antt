@@ -86,7 +86,7 @@ module _ {l : Limits} {w : Store} {t : Table} {ws : List ℕ} (g : Good l w t ws
       → Comes l w i (atPlace (g .pa) (g .ra) (Meet v)) X (ends (out (movedTable t i (t .marks) (taskAt t i .pending) (Take (t .limits .k))) Moved) ws)
   unfolding happenAll holdingOf
   pays d =
-      comes-moved g i (below g i ip) (atPlace (g .pa) (g .ra) (Meet v)) X (g .kept) (g .pa) (g .ra) (moves (g .objects) i (goes (g .objects .tasks i) (Take (t .limits .k))))
+      comes-moved g i (below g i ip) (atPlace (g .pa) (g .ra) (Meet v)) X (g .kept) (g .pa) (g .ra) (moves (g .objects) i (goes (g .objects .tasks i) (Take (t .limits .k)))) (place .0)
       (t .marks) _ _ (goes (g .objects .tasks i) (Take (t .limits .k))) ws (moved-goes g i ip (t .marks) (Take (t .limits .k)))
       (meets-white (g .inv) i ip x j se v pe d (t .limits .k) (g .agree .sized .limited .k-low))
       (moves-agree (g .inv) (g .agree) i ip (goes (g .objects .tasks i) (Take (t .limits .k))) (t .marks .j) (rw pe refl) (omega arith))
@@ -99,7 +99,7 @@ module _ {l : Limits} {w : Store} {t : Table} {ws : List ℕ} (g : Good l w t ws
   unfolding happenAll holdingOf
   goes-on d f =
       comes-moved g i (below g i ip) (atPlace (g .pa) (g .ra) (Meet v)) X (g .kept) (g .pa) (g .ra)
-      (moves (g .objects) i (goes (g .objects .tasks i) (lookAhead v ToStoreCopy StoreCopy))) (t .marks) _ _
+      (moves (g .objects) i (goes (g .objects .tasks i) (lookAhead v ToStoreCopy StoreCopy))) (place .0) (t .marks) _ _
       (goes (g .objects .tasks i) (lookAhead v ToStoreCopy StoreCopy)) ws
       (rw (at-ahead (g .agree .lay) v (place .1) ToStoreCopy StoreCopy StoreCopy (λ c. refl)) (moved-goes g i ip (t .marks) (lookAhead v ToStoreCopy StoreCopy)))
       (meets-goes (g .inv) i ip x j se v pe d f)

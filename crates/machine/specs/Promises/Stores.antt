@@ -56,7 +56,7 @@ module _ {l : Limits} {w : Store} {t : Table} {ws : List ℕ} (g : Good l w t ws
   unfolding storeWriteOf settleOf happenAll holdingOf
   store-write-comes X v on pe =
       rw (object-of (g .inv) (g .agree) (x .0) held, lt-leb (g .objects .shape .len (x .0)) j (stored .2), operand-word (g .pa) v j (g .objects .shape .ptr (x .0)) (place .0 .0))
-      (comes-moved g i (below g i ip) (atPlace (g .pa) (g .ra) (StoreWrite v)) X (g .kept) (g .pa) (g .ra) (stores (g .objects) (x .0) j (operandWord v) i (goes (g .objects .tasks i) (Meet v))) _ _ _
+      (comes-moved g i (below g i ip) (atPlace (g .pa) (g .ra) (StoreWrite v)) X (g .kept) (g .pa) (g .ra) (stores (g .objects) (x .0) j (operandWord v) i (goes (g .objects .tasks i) (Meet v))) on _ _ _
       (goes (g .objects .tasks i) (Meet v)) _ (moved-goes g i ip (t .marks) (Meet v)) (store-writes (g .inv) i ip x j se on v pe)
       (stores-agree (g .inv) (g .agree) i ip (goes (g .objects .tasks i) (Meet v)) (rw pe refl) (x .0) held j (operandWord v) written)
       (rw doing (still-goes (still-written (g .still) (x .0) j (operandWord v) (stored .0) (stored .1 .1) filled) i (below g i ip) (Meet v) (rw doing refl))))
@@ -86,7 +86,7 @@ module _ {l : Limits} {w : Store} {t : Table} {ws : List ℕ} (g : Good l w t ws
         copied-word (g .ra) c j (g .objects .shape .ptr (x .0)) (place .1 .0),
       )
       (comes-moved g i (below g i ip) (atPlace (g .pa) (g .ra) (StoreCopy c)) X (g .kept) (g .pa) (g .ra)
-      (copies (g .objects) (x .0) j (copiedWord c) i (goes (g .objects .tasks i) (Take (t .limits .k)))) _ _ _ (goes (g .objects .tasks i) (Take (t .limits .k))) _
+      (copies (g .objects) (x .0) j (copiedWord c) i (goes (g .objects .tasks i) (Take (t .limits .k)))) (place .0) _ _ _ (goes (g .objects .tasks i) (Take (t .limits .k))) _
       (moved-goes g i ip (t .marks) (Take (t .limits .k))) (store-copies (g .inv) i ip x j se c pe (t .limits .k) (g .agree .sized .limited .k-low))
       (copies-agree (g .inv) (g .agree) i ip (goes (g .objects .tasks i) (Take (t .limits .k))) (rw pe refl) (x .0) held j (copiedWord c) (place .1 .2) (stored .2))
       (still-goes (g .still) i (below g i ip) (Take (t .limits .k)) (busy-at g i ip (StoreCopy c) pe tt)))

@@ -12,3 +12,10 @@ pub mod Finish
 pub mod Ending
 pub mod Pays
 pub mod Copies
+pub mod Releases
+pub mod Fills
+pub mod Registers
+pub mod Loads
+pub mod Begins
+pub mod BeginStore
+pub mod Calls

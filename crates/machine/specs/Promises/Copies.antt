@@ -76,10 +76,10 @@ module _ {l : Limits} {w : Store} {t : Table} {ws : List ℕ} (g : Good l w t ws
 
   -- a locked slot: of an object with words, and filled
   module _ (live : g .objects .on ≡ true) (lock : g .objects .hd (x .0) ≡ locked k i) where
-    held : Held (g .kept) (g .objects .shape) (x .0)
+    pub held : Held (g .kept) (g .objects .shape) (x .0)
     held = let h = g .inv .owners .locker (x .0) k i lock in (h .1, h .2, h .3)
 
-    placed : IsPlaced (g .objects .hd (x .0))
+    pub placed : IsPlaced (g .objects .hd (x .0))
     placed = rw lock tt
 
     filled : k < g .objects .shape .fill (x .0)
@@ -87,7 +87,7 @@ module _ {l : Limits} {w : Store} {t : Table} {ws : List ℕ} (g : Good l w t ws
         let a = rw lock at (colours live .bound (x .0) placed) in
         omega (arith, colours live .older (x .0))
 
-    short : k < g .objects .shape .len (x .0)
+    pub short : k < g .objects .shape .len (x .0)
     short = omega (arith, filled, g .inv .shapes .filled (x .0), g .inv .shapes .written (x .0))
 
   module _ (pe : g .objects .tasks i .place ≡ Read n x k) where

@@ -19,3 +19,16 @@ pub mod Loads
 pub mod Begins
 pub mod BeginStore
 pub mod Calls
+pub mod StoreOff
+pub mod News
+pub mod Waits
+pub mod Changes
+pub mod StepChanges
+pub mod Fair
+pub mod Others
+pub mod Moment
+pub mod OneStep
+pub mod SlotsStay
+pub mod Flips
+pub mod Room
+pub mod Steps

@@ -30,4 +30,5 @@ pub mod Kinds
 pub mod StillRun
 pub mod Objects
 pub mod Agree
+pub mod Beside
 pub mod Promises

@@ -1,0 +1,165 @@
+-- The steps of a copy in hand: read, put, release.
+use Prim.Native.Nat.{ℕ, zero, suc, _+_, _-_, _≤_, _<_}
+use mathlib.Core.Path.{_≡_, refl, ap, sym, _∙_}
+use mathlib.Core.Logic.{_≢_, _⊎_, inl, inr}
+use mathlib.Core.List.{List, [], _∷_}
+use mathlib.Core.Bool.{Bool, true, false}
+use native.Mathlib.Omega.{arith}
+use lib.ListN.{getD, set}
+use lib.Dec.{ltb, leb, eqb}
+use borrow.Author.Tests.{eqb-true, eqb-false, ne-eqb, lt-leb, ltb-true}
+use Rattle.table.specs.declared.Limits.{Limits}
+use Rattle.table.specs.declared.Primary.{Primary}
+use Rattle.table.specs.declared.Operand.{Operand}
+use Rattle.table.specs.declared.Operand.the-variants.{Plain, Pointer}
+use Rattle.table.specs.declared.Copied.{Copied}
+use Rattle.table.specs.declared.Copied.the-variants.{Same, Renamed}
+use Rattle.table.specs.declared.Then.the-variants.{ToPut}
+use Rattle.table.specs.declared.Place.{Place}
+use Rattle.table.specs.declared.Place.the-variants.{Take, Read, Put, Release, Looking}
+use Rattle.table.specs.declared.Deed.the-variants.{Goes}
+use Rattle.table.specs.declared.Answer.the-variants.{Done, Moved}
+use Rattle.table.specs.declared.Task.{Task}
+use Rattle.table.specs.declared.Table.{Table}
+use Rattle.machine.specs.Basics.{pick}
+use Rattle.machine.specs.Words.{primary, replica, copiedWord}
+use Rattle.machine.specs.Entries.{taskAt, movedTable, marksAt, out, ends}
+use Rattle.machine.specs.Deeds.{acted}
+use Rattle.machine.specs.Look.{lookAhead}
+use Rattle.machine.specs.Switch.{finishOf}
+use Rattle.machine.specs.Pay.{takeOf, readOf, putOf, paid, releaseOf}
+use Rattle.machine.specs.Step.{waitOf, settle, settleOf, emptyTakeOf, takeStepOf}
+use Rattle.machine.specs.Tasks.{holdingOf, greyOf}
+use Rattle.machine.specs.StillStore.{Store, Doing, ownerAt, happenAll, isResting}
+use Rattle.machine.specs.Objects.State.{Hd, white, claimed, count, locked, State, IsPlaced, isRenamed, jobsIn, Late}
+use Rattle.machine.specs.Objects.Inv.{Inv, Sound, Colours, Mode, SoundOperand, SoundCopied}
+use Rattle.machine.specs.Objects.Ops.{goes, moves, heads, copies, push}
+use Rattle.machine.specs.Objects.MoveLaws.{at-place}
+use Rattle.machine.specs.Objects.PaySteps.{takes, reads, puts, releases}
+use Rattle.machine.specs.Objects.Ends.{take-ends, release-ends}
+use Rattle.machine.specs.Agree.Encode.{atPrimary, atOperand, atCopied, atPlace, atTask}
+use Rattle.machine.specs.Agree.Agree.{Agree, Held, end}
+use Rattle.machine.specs.Agree.Read.{object-of, copyingIs, copying-of, slot-of, stack-of, stack-room, stack-empty}
+use Rattle.machine.specs.Agree.Enter.{moves-agree, job-counted}
+use Rattle.machine.specs.Agree.Heads.{take-agree, release-agree}
+use Rattle.machine.specs.Agree.Slots.{copies-agree}
+use Rattle.machine.specs.Agree.Search.{worker-found}
+use Rattle.machine.specs.Beside.Still.{DoingAt, Still}
+use Rattle.machine.specs.Beside.Doing.{still-goes}
+use Rattle.machine.specs.Beside.Good.{Good, Comes, comes-moved, comes-wait}
+use Rattle.machine.specs.Beside.Glue.{copied-word, at-ahead, look-placed, below, moved-goes, busy-at}
+use Rattle.machine.specs.Beside.Ending.{ends-comes}
+
+-- the job in hand stays, and the store knows no more than that the task is busy
+ahead-jobs : (v : Operand) (n : ℕ) (x : Primary) (k : ℕ) → 1 ≡ jobsIn (holdingOf (lookAhead v (ToPut n x k) (Put n x k)))
+unfolding holdingOf
+ahead-jobs (Plain w) n x k = refl
+ahead-jobs (Pointer p) n x k = on (eqb (p .0) 0)
+  where
+    on : (b : Bool) → 1 ≡ jobsIn (holdingOf (pick b (Put n x k (Renamed (replica 0))) (Looking p (ToPut n x k))))
+    on true = refl
+    on false = refl
+
+ahead-doing : (e : Task) (d : Doing) (v : Operand) (n : ℕ) (x : Primary) (k : ℕ) → isResting d ≡ false
+    → DoingAt (goes e (lookAhead v (ToPut n x k) (Put n x k))) d (lookAhead v (ToPut n x k) (Put n x k))
+ahead-doing e d (Plain w) n x k h = h
+ahead-doing e d (Pointer p) n x k h = on (eqb (p .0) 0)
+  where
+    on : (b : Bool) → DoingAt (goes e (pick b (Put n x k (Renamed (replica 0))) (Looking p (ToPut n x k)))) d (pick b (Put n x k (Renamed (replica 0))) (Looking p (ToPut n x k)))
+    on true = h
+    on false = h
+
+module _ {l : Limits} {w : Store} {t : Table} {ws : List ℕ} (g : Good l w t ws) (i : ℕ) (ip : i < t .limits .p) (X : Type 0) (n : ℕ) (x : Primary) (k : ℕ) where
+  colours : g .objects .on ≡ true → Colours (g .kept) (g .objects .shape) (g .objects .snap) (g .objects .hd) (g .objects .prim) (g .objects .rep) (g .objects .has) (g .objects .stack)
+      (Late (g .objects .tasks))
+  colours on = rw on at (g .inv .mode)
+
+  -- a locked slot: of an object with words, and filled
+  module _ (live : g .objects .on ≡ true) (lock : g .objects .hd (x .0) ≡ locked k i) where
+    pub held : Held (g .kept) (g .objects .shape) (x .0)
+    held = let h = g .inv .owners .locker (x .0) k i lock in (h .1, h .2, h .3)
+
+    pub placed : IsPlaced (g .objects .hd (x .0))
+    placed = rw lock tt
+
+    filled : k < g .objects .shape .fill (x .0)
+    filled =
+        let a = rw lock at (colours live .bound (x .0) placed) in
+        omega (arith, colours live .older (x .0))
+
+    pub short : k < g .objects .shape .len (x .0)
+    short = omega (arith, filled, g .inv .shapes .filled (x .0), g .inv .shapes .written (x .0))
+
+  module _ (pe : g .objects .tasks i .place ≡ Read n x k) where
+    live-r : g .objects .on ≡ true
+    live-r = at-place (g .inv) i (Read n x k) pe .0
+
+    lock-r : g .objects .hd (x .0) ≡ locked k i
+    lock-r = at-place (g .inv) i (Read n x k) pe .2
+
+    goes-on : (v : Operand) → SoundOperand (g .kept) (g .objects .shape) v
+        → Inv (g .kept) (t .limits .p) (t .limits .s) (moves (g .objects) i (goes (g .objects .tasks i) (lookAhead v (ToPut n x k) (Put n x k))))
+        → Comes l w i (atPlace (g .pa) (g .ra) (Read n x k)) X
+        (ends
+        (out
+        (movedTable t i (t .marks) (taskAt t i .pending)
+        (lookAhead (atOperand (g .pa) v) (ToPut n (atPrimary (g .pa) x) k) (Put n (atPrimary (g .pa) x) k))) Moved) ws)
+    unfolding happenAll holdingOf
+    goes-on v s inv =
+        comes-moved g i (below g i ip) (atPlace (g .pa) (g .ra) (Read n x k)) X (g .kept) (g .pa) (g .ra)
+        (moves (g .objects) i (goes (g .objects .tasks i) (lookAhead v (ToPut n x k) (Put n x k)))) live-r (t .marks) _ _
+        (goes (g .objects .tasks i) (lookAhead v (ToPut n x k) (Put n x k))) ws
+        (rw (at-ahead (g .agree .lay) v s (ToPut n x k) (Put n x k) (Put n (atPrimary (g .pa) x) k) (λ c. refl))
+        (moved-goes g i ip (t .marks) (lookAhead v (ToPut n x k) (Put n x k))))
+        inv
+        (moves-agree (g .inv) (g .agree) i ip (goes (g .objects .tasks i) (lookAhead v (ToPut n x k) (Put n x k))) (t .marks .j)
+        (rw pe (ap (λ m. t .marks .j + m) (ahead-jobs v n x k))) (omega arith))
+        (still-goes (g .still) i (below g i ip) (lookAhead v (ToPut n x k) (Put n x k))
+        (ahead-doing (g .objects .tasks i) (ownerAt w i .doing) v n x k (busy-at g i ip (Read n x k) pe tt)))
+
+    pub read-comes : Comes l w i (atPlace (g .pa) (g .ra) (Read n x k)) X (settle t i (readOf (t .marks) ws (t .limits .s) n (atPrimary (g .pa) x) k))
+    unfolding readOf settleOf
+    read-comes =
+        rw (
+          object-of (g .inv) (g .agree) (x .0) (held live-r lock-r),
+          lt-leb (g .objects .shape .len (x .0)) k (short live-r lock-r),
+          slot-of (g .agree) (x .0) k (held live-r lock-r) (omega (arith, filled live-r lock-r, g .inv .shapes .filled (x .0))),
+        )
+        (on (ltb k (g .objects .shape .ptr (x .0))) refl)
+      where
+        on : (b : Bool) → ltb k (g .objects .shape .ptr (x .0)) ≡ b
+            → Comes l w i (atPlace (g .pa) (g .ra) (Read n x k)) X
+            (settle t i
+            (pick b
+            (acted
+            (Goes (t .marks)
+            (lookAhead (Pointer (primary (pick b (g .pa (g .objects .prim (x .0) k)) (g .objects .prim (x .0) k)))) (ToPut n (atPrimary (g .pa) x) k)
+            (Put n (atPrimary (g .pa) x) k)))
+            ws)
+            (acted
+            (Goes (t .marks)
+            (lookAhead (Plain (pick b (g .pa (g .objects .prim (x .0) k)) (g .objects .prim (x .0) k))) (ToPut n (atPrimary (g .pa) x) k) (Put n (atPrimary (g .pa) x) k)))
+            ws)))
+        on true e =
+            goes-on (Pointer (primary (g .objects .prim (x .0) k)))
+            (g .inv .shapes .closed (x .0) k (held live-r lock-r .2) (held live-r lock-r .1) (filled live-r lock-r) (ltb-true k _ e))
+            (rw e at (reads (g .objects) i n x k (g .inv) ip pe))
+        on false e = goes-on (Plain (g .objects .prim (x .0) k)) tt (rw e at (reads (g .objects) i n x k (g .inv) ip pe))
+
+  -- into the replica
+  pub put-comes : (c : Copied) → g .objects .tasks i .place ≡ Put n x k c
+      → Comes l w i (atPlace (g .pa) (g .ra) (Put n x k c)) X (settle t i (putOf (t .marks) ws (t .limits .s) n (atPrimary (g .pa) x) k (atCopied (g .ra) c)))
+  unfolding putOf settleOf happenAll holdingOf
+  put-comes c pe =
+      let h = at-place (g .inv) i (Put n x k c) pe in
+      rw (
+        look-placed (g .inv) (g .agree) (x .0) (held (h .0) (h .2)) (placed (h .0) (h .2)),
+        lt-leb (g .objects .shape .len (x .0)) k (short (h .0) (h .2)),
+        copied-word (g .ra) c k (g .objects .shape .ptr (x .0)) (h .3),
+      )
+      (comes-moved g i (below g i ip) (atPlace (g .pa) (g .ra) (Put n x k c)) X (g .kept) (g .pa) (g .ra)
+      (copies (g .objects) (x .0) k (copiedWord c) i (goes (g .objects .tasks i) (Release n x k))) (h .0) _ _ _ (goes (g .objects .tasks i) (Release n x k)) _
+      (moved-goes g i ip (t .marks) (Release n x k)) (puts (g .objects) i n x k c (g .inv) ip pe)
+      (copies-agree (g .inv) (g .agree) i ip (goes (g .objects .tasks i) (Release n x k)) (rw pe refl) (x .0) (held (h .0) (h .2)) k (copiedWord c) (placed (h .0) (h .2))
+      (short (h .0) (h .2)))
+      (still-goes (g .still) i (below g i ip) (Release n x k) (busy-at g i ip (Put n x k c) pe tt)))

@@ -1,0 +1,62 @@
+-- Demand 2, from the runs in which table and store stand side by side.
+use Prim.Native.Nat.{ℕ}
+use mathlib.Core.Path.{_≡_, refl, ap, sym, _∙_}
+use mathlib.Core.Logic.{_≢_, _⊎_, inl, inr}
+use mathlib.Core.List.{List, [], _∷_}
+use mathlib.Core.Bool.{Bool, true, false}
+use native.Mathlib.Omega.{arith}
+use lib.ListN.{length, replicate}
+use Rattle.table.specs.declared.Limits.{Limits}
+use Rattle.table.specs.declared.Table.{Table}
+use Rattle.table.specs.declared.Refusal.the-variants.{Exhausted, Damaged}
+use Rattle.table.specs.declared.Answer.{Answer}
+use Rattle.table.specs.declared.Answer.the-variants.{No}
+use Rattle.machine.specs.Entries.{Ends}
+use Rattle.machine.specs.Gate.{sizesOk}
+use Rattle.machine.specs.Setup.{setupOf}
+use Rattle.machine.specs.Call.{Call}
+use Rattle.machine.specs.Calls.{then, run}
+use Rattle.machine.specs.StillStore.{Store, emptyStore, loadAnswer, sameAnswer}
+use Rattle.machine.specs.Kinds.{follows, beside}
+use Rattle.machine.specs.Beside.Good.{Good, Undamaged}
+use Rattle.machine.specs.Beside.Start.{fresh-good}
+use Rattle.machine.specs.Beside.Calls.{load-answers, same-answers}
+use Rattle.machine.specs.Beside.Run.{Living, Spends, Proceeds, proceeds, good-run}
+
+not-damaged : (x : Answer) → Undamaged x → x ≢ No Damaged
+not-damaged x u e = rw e at u
+
+not-spent : (x : Answer) → Undamaged x → x ≢ No Exhausted
+not-spent x u e = rw e at u
+
+module _ (t : Table) (l : Limits) (ws : List ℕ) (accepted : sizesOk l (length ws) ≡ true) where
+  pub set-up-good : Good l emptyStore (setupOf t l ws .out .table) (setupOf t l ws .words)
+  unfolding setupOf
+  set-up-good = rw accepted (fresh-good l (length ws) accepted)
+
+  module _ (cs : List Call) (living : Living cs (setupOf t l ws)) where
+    pub good-after : Good l (beside cs (setupOf t l ws) emptyStore) (run cs (setupOf t l ws) .out .table) (run cs (setupOf t l ws) .words)
+    good-after = good-run l cs (setupOf t l ws) emptyStore set-up-good living
+
+    pub load-right : (task to from slot : ℕ)
+        → then (Call.Load task to from slot) (run cs (setupOf t l ws)) .out .answer ≡ loadAnswer (beside cs (setupOf t l ws) emptyStore) (l .p) task to from slot
+    load-right task to from slot = load-answers good-after task to from slot
+
+    pub same-right : (task a b : ℕ)
+        → then (Call.Same task a b) (run cs (setupOf t l ws)) .out .answer ≡ sameAnswer (beside cs (setupOf t l ws) emptyStore) (l .p) task a b
+    same-right task a b = same-answers good-after task a b
+
+    pub undamaged : (c : Call) → then c (run cs (setupOf t l ws)) .out .answer ≢ No Damaged
+    undamaged c = on (proceeds l (beside cs (setupOf t l ws) emptyStore) c (run cs (setupOf t l ws)) good-after)
+      where
+        on : Proceeds l (beside cs (setupOf t l ws) emptyStore) c (run cs (setupOf t l ws)) → then c (run cs (setupOf t l ws)) .out .answer ≢ No Damaged
+        on (inl h) = λ e. let q : No Exhausted ≡ No Damaged = sym (h .0) ∙ e in let z : _≡_ {A = ℕ} 0 1 = cc in absurd (omega arith)
+        on (inr h) = not-damaged (then c (run cs (setupOf t l ws)) .out .answer) (h .1)
+
+    pub spent-for-room : (c : Call) → then c (run cs (setupOf t l ws)) .out .answer ≡ No Exhausted
+        → Spends c (run cs (setupOf t l ws) .out .table) (run cs (setupOf t l ws) .words)
+    spent-for-room c e = on (proceeds l (beside cs (setupOf t l ws) emptyStore) c (run cs (setupOf t l ws)) good-after)
+      where
+        on : Proceeds l (beside cs (setupOf t l ws) emptyStore) c (run cs (setupOf t l ws)) → Spends c (run cs (setupOf t l ws) .out .table) (run cs (setupOf t l ws) .words)
+        on (inl h) = h .1
+        on (inr h) = absurd (not-spent (then c (run cs (setupOf t l ws)) .out .answer) (h .1) e)

@@ -1,0 +1,80 @@
+-- An instruction that ends with no change but its end: a payment that finds nothing grey, a New refused for want of room.
+use Prim.Native.Nat.{ℕ, _+_, _≤_, _<_}
+use mathlib.Core.Path.{_≡_, refl, ap, sym, _∙_}
+use mathlib.Core.List.{List, [], _∷_}
+use mathlib.Core.Bool.{Bool, true, false}
+use native.Mathlib.Omega.{arith}
+use lib.Dec.{eqb}
+use lib.ListN.{set}
+use Rattle.table.specs.declared.Limits.{Limits}
+use Rattle.table.specs.declared.Primary.{Primary}
+use Rattle.table.specs.declared.Marks.{Marks}
+use Rattle.table.specs.declared.Pending.{Pending}
+use Rattle.table.specs.declared.Pending.the-variants.{Nothing, Making}
+use Rattle.table.specs.declared.Storing.the-variants.{Nowhere}
+use Rattle.table.specs.declared.Place.{Place}
+use Rattle.table.specs.declared.Place.the-variants.{Idle}
+use Rattle.table.specs.declared.Table.{Table}
+use Rattle.table.specs.declared.Answer.{Answer}
+use Rattle.machine.specs.Basics.{pick}
+use Rattle.machine.specs.Entries.{entry, taskAt}
+use Rattle.machine.specs.Tasks.{holdingOf}
+use Rattle.machine.specs.Switch.{endedEntry, endedTable, finishOf}
+use Rattle.machine.specs.StillStore.{Store, Ended, ownerAt, thingAt, withOwner, endsOwner, happenAll}
+use Rattle.machine.specs.Kinds.{stepKinds}
+use Rattle.machine.specs.Objects.State.{Hd, Shape, jobsIn}
+use Rattle.machine.specs.Objects.Inv.{Inv, PendingOk}
+use Rattle.machine.specs.Objects.Ops.{moves}
+use Rattle.machine.specs.Agree.Encode.{atPending, atTask}
+use Rattle.machine.specs.Agree.Enter.{entered, entered-ended, moves-agree}
+use Rattle.machine.specs.Beside.Still.{Still}
+use Rattle.machine.specs.Beside.StillSteps.{Filling, still-ended}
+use Rattle.machine.specs.Beside.Good.{Good, Undamaged, Comes}
+use Rattle.machine.specs.Beside.Glue.{below, entry-of}
+use Rattle.machine.specs.Beside.Finish.{finishes}
+
+pub ended-idle : (regs : List Primary) (d : Pending) → endedEntry regs d .place ≡ Idle
+ended-idle regs Nothing = refl
+ended-idle regs (Making x r len f) = on (eqb f len)
+  where
+    on : (b : Bool) → pick b (entry (set regs r x) Nothing Nowhere Idle) (entry regs (Making x r len f) Nowhere Idle) .place ≡ Idle
+    on true = refl
+    on false = refl
+
+-- an idle task has no job
+pub ended-jobs : (regs : List Primary) (d : Pending) → jobsIn (holdingOf (endedEntry regs d .place)) ≡ 0
+unfolding holdingOf
+ended-jobs regs d = rw (ended-idle regs d) refl
+
+pub filling : (K : ℕ → Type 0) (sh : Shape) (hd : ℕ → Hd) (on : Bool) (d : Pending) → PendingOk K sh hd on d → Filling sh d
+filling K sh hd on Nothing o = tt
+filling K sh hd on (Making x r len f) o = (o .0, o .2, o .3, o .4)
+
+module _ {l : Limits} {w : Store} {t : Table} {ws : List ℕ} (g : Good l w t ws) (i : ℕ) (ip : i < t .limits .p) where
+  -- the table of the end, whatever the marks
+  pub ended-table : (m : Marks) → endedTable t i m (taskAt t i .pending)
+      ≡ entered t m i (atTask (g .pa) (g .ra) (endedEntry (g .objects .tasks i .regs) (g .objects .tasks i .pending)))
+  ended-table m =
+      ap (λ (d : Pending). endedTable t i m d) (ap (λ e. e .pending) (entry-of g i ip))
+      ∙ entered-ended (g .pa) (g .ra) (g .objects) t i m (g .objects .tasks i .pending) (entry-of g i ip)
+
+  -- the store's task ends
+  pub still-ends : Still (g .objects .shape) (g .objects .prim) (moves (g .objects) i (endedEntry (g .objects .tasks i .regs) (g .objects .tasks i .pending)) .tasks)
+      (g .objects .roots) (withOwner w i (endsOwner (ownerAt w i) (thingAt w (ownerAt w i .pending))))
+  still-ends =
+      let q = g .still .tasks i (below g i ip) in
+      still-ended (g .still) i (below g i ip) (g .objects .tasks i .regs) (g .objects .tasks i .pending) (q .regs) (q .pending) (q .goesTo)
+      (filling (g .kept) (g .objects .shape) (g .objects .hd) (g .objects .on) (g .objects .tasks i .pending) (g .inv .entries i .pending))
+
+  pub ends-comes : (before : Place) (X : Type 0) (x : Answer) → Undamaged x → ((after : Place) → stepKinds x before after ≡ Ended ∷ [])
+      → jobsIn (holdingOf (g .objects .tasks i .place)) ≡ 0
+      → Inv (g .kept) (t .limits .p) (t .limits .s) (moves (g .objects) i (endedEntry (g .objects .tasks i .regs) (g .objects .tasks i .pending)))
+      → Comes l w i before X (finishOf t ws i (t .marks) (taskAt t i .pending) x)
+  unfolding happenAll
+  ends-comes before X x und kinds none inv =
+      finishes g i before X (g .kept) (g .pa) (g .ra) (moves (g .objects) i (endedEntry (g .objects .tasks i .regs) (g .objects .tasks i .pending))) ws (t .marks)
+      (taskAt t i .pending) x (withOwner w i (endsOwner (ownerAt w i) (thingAt w (ownerAt w i .pending)))) und (λ after. rw (kinds after) refl) inv
+      (rw (ended-table (t .marks))
+      (moves-agree (g .inv) (g .agree) i ip (endedEntry (g .objects .tasks i .regs) (g .objects .tasks i .pending)) (t .marks .j)
+      (rw (none, ended-jobs (g .objects .tasks i .regs) (g .objects .tasks i .pending)) refl) (omega arith)))
+      (g .home) still-ends

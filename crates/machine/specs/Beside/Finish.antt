@@ -1,0 +1,92 @@
+-- The end of an instruction, with the switch-over where it is due.
+use Prim.Native.Nat.{ℕ, _≤_, _<_}
+use mathlib.Core.Path.{_≡_, refl, ap, sym, _∙_}
+use mathlib.Core.Logic.{_⊎_, inl, inr}
+use mathlib.Core.List.{List, [], _∷_}
+use mathlib.Core.Bool.{Bool, true, false, not}
+use native.Mathlib.Omega.{arith}
+use Rattle.table.specs.declared.Limits.{Limits}
+use Rattle.table.specs.declared.Marks.{Marks}
+use Rattle.table.specs.declared.Pending.{Pending}
+use Rattle.table.specs.declared.Place.{Place}
+use Rattle.table.specs.declared.Place.the-variants.{Idle}
+use Rattle.table.specs.declared.Table.{Table}
+use Rattle.table.specs.declared.Answer.{Answer}
+use Rattle.machine.specs.Basics.{pick}
+use Rattle.machine.specs.Words.{endOf}
+use Rattle.machine.specs.Entries.{taskAt, out, Ends, ends}
+use Rattle.machine.specs.Tasks.{greyOf, allIdle}
+use Rattle.machine.specs.Switch.{switched, switchOf, switchDue, endedTable, finishOf}
+use Rattle.machine.specs.StillStore.{Store, happenAll}
+use Rattle.machine.specs.Kinds.{stepKinds}
+use Rattle.machine.specs.Objects.Base.{off-on}
+use Rattle.machine.specs.Objects.State.{State, count}
+use Rattle.machine.specs.Objects.Inv.{Inv}
+use Rattle.machine.specs.Objects.Ops.{switches}
+use Rattle.machine.specs.Objects.Final.{final}
+use Rattle.machine.specs.Objects.SwitchInv.{switch-inv}
+use Rattle.machine.specs.Agree.Agree.{Agree, bottom}
+use Rattle.machine.specs.Agree.Home.{Home}
+use Rattle.machine.specs.Agree.Search.{not-grey, all-idle}
+use Rattle.machine.specs.Agree.SwitchWords.{switch-is, switch-agree, switch-home}
+use Rattle.machine.specs.Beside.Still.{Still}
+use Rattle.machine.specs.Beside.StillLaws.{still-shape}
+use Rattle.machine.specs.Beside.Good.{Good, Undamaged, Comes}
+
+-- what a due switch-over has seen
+pub due : (u : Table) → switchDue u ≡ true
+    → (u .on ≡ true) × (greyOf (u .marks) (endOf (u .upper) (u .limits .h)) (u .tasks) (u .limits .p) ≡ false) × (allIdle (u .tasks) (u .limits .p) ≡ true)
+unfolding switchDue
+due u e = on (u .on) refl (greyOf (u .marks) (endOf (u .upper) (u .limits .h)) (u .tasks) (u .limits .p)) refl e
+  where
+    on : (a : Bool) → u .on ≡ a → (b : Bool) → greyOf (u .marks) (endOf (u .upper) (u .limits .h)) (u .tasks) (u .limits .p) ≡ b
+        → pick a (pick b false (allIdle (u .tasks) (u .limits .p))) false ≡ true
+        → (u .on ≡ true) × (greyOf (u .marks) (endOf (u .upper) (u .limits .h)) (u .tasks) (u .limits .p) ≡ false) × (allIdle (u .tasks) (u .limits .p) ≡ true)
+    on true a true b e = off-on e
+    on true a false b e = (a, b, e)
+    on false a true b e = off-on e
+    on false a false b e = off-on e
+
+pub still-switches : (o : State) {w : Store} → Still (o .shape) (o .prim) (o .tasks) (o .roots) w
+    → Still (switches o .shape) (switches o .prim) (switches o .tasks) (switches o .roots) w
+still-switches o k = still-shape (switches o .shape) (o .prim) k refl (λ x z m q. record { len = q .len; ptr = q .ptr; fill = q .fill; slots = q .slots })
+
+module _ {l : Limits} {w : Store} {t : Table} {ws : List ℕ} (g : Good l w t ws) (i : ℕ) (before : Place) (X : Type 0) where
+  -- the action left the objects o, the words ws′ and the marks m; the store is w′
+  pub finishes : (K : ℕ → Type 0) (pa ra : ℕ → ℕ) (o : State) (ws′ : List ℕ) (m : Marks) (pending : Pending) (x : Answer) (w′ : Store) → Undamaged x
+      → ((after : Place) → happenAll w i (stepKinds x before after) ≡ w′) → Inv K (t .limits .p) (t .limits .s) o → Agree K pa ra o (endedTable t i m pending) ws′
+      → (o .on ≡ false → Home K pa (o .shape) (bottom t) (m .a)) → Still (o .shape) (o .prim) (o .tasks) (o .roots) w′ → Comes l w i before X (finishOf t ws′ i m pending x)
+  unfolding finishOf
+  finishes K pa ra o ws′ m pending x w′ und kinds inv agree home still = on (switchDue (endedTable t i m pending)) refl
+    where
+      on : (b : Bool) → switchDue (endedTable t i m pending) ≡ b
+          → Comes l w i before X (ends (pick b (switchOf t (endedTable t i m pending) ws′ x) (out (endedTable t i m pending) x)) ws′)
+      on false e =
+          inr (
+            rw (kinds (taskAt (endedTable t i m pending) i .place))
+                (record { kept = K; pa = pa; ra = ra; objects = o; limits = g .limits; long = g .long; inv = inv; agree = agree; home = home; still = still }),
+            und,
+          )
+      on true e =
+          let d = due (endedTable t i m pending) e in
+          let h = not-grey agree inv (d .1) in
+          let idle = all-idle agree inv (d .2) in
+          let live = sym (agree .on) ∙ d .0 in
+          let done = final inv live (h .0) (h .1) (h .2) in
+          rw (switch-is inv agree live idle done (h .0) t x)
+          (inr (
+            rw (kinds (taskAt (switched (endedTable t i m pending) ws′) i .place))
+                (record {
+                  kept = K;
+                  pa = ra;
+                  ra = ra;
+                  objects = switches o;
+                  limits = g .limits;
+                  long = g .long;
+                  inv = switch-inv inv idle;
+                  agree = switch-agree inv agree live idle done (h .0);
+                  home = λ f. switch-home inv agree live idle done (h .0);
+                  still = still-switches o still;
+                }),
+            und,
+          ))

@@ -1,0 +1,92 @@
+-- A table and its words that stand for objects, and the store beside them; and what a step must make of them.
+use Prim.Native.Nat.{ℕ, _≤_, _<_}
+use mathlib.Core.Path.{_≡_, refl, ap, sym, _∙_}
+use mathlib.Core.Logic.{_≢_, _⊎_, inl, inr}
+use mathlib.Core.List.{List, [], _∷_}
+use mathlib.Core.Bool.{Bool, true, false, not}
+use native.Mathlib.Omega.{arith}
+use lib.ListN.{length, getD, set}
+use lib.Seq.{getD-set-same}
+use Rattle.table.specs.declared.Limits.{Limits}
+use Rattle.table.specs.declared.Marks.{Marks}
+use Rattle.table.specs.declared.Pending.{Pending}
+use Rattle.table.specs.declared.Place.{Place}
+use Rattle.table.specs.declared.Task.{Task}
+use Rattle.table.specs.declared.Table.{Table}
+use Rattle.table.specs.declared.Refusal.{Refusal}
+use Rattle.table.specs.declared.Refusal.the-variants.{WrongLimit, NoTask, NoRegister, NilObject, NoSlot, OutOfTurn, Held, SlotInStore, NoRoom, Exhausted, Damaged}
+use Rattle.table.specs.declared.Answer.{Answer}
+use Rattle.table.specs.declared.Answer.the-variants.{Accepted, Done, Value, Moved, Wait, Report, No}
+use Rattle.machine.specs.Entries.{noTask, taskAt, movedTable, out, Ends, ends}
+use Rattle.machine.specs.StillStore.{Store, Kind, happenAll}
+use Rattle.machine.specs.Kinds.{movedKinds, stepKinds}
+use Rattle.machine.specs.Objects.Base.{off-on}
+use Rattle.machine.specs.Objects.State.{State}
+use Rattle.machine.specs.Objects.Inv.{Inv}
+use Rattle.machine.specs.Agree.Encode.{atTask}
+use Rattle.machine.specs.Agree.Agree.{Agree, bottom}
+use Rattle.machine.specs.Agree.Home.{Home}
+use Rattle.machine.specs.Agree.Enter.{entered}
+use Rattle.machine.specs.Beside.Still.{Still}
+
+-- table t with words ws, set up with limits l, stands for some objects, and so does the store w
+pub record Good (l : Limits) (w : Store) (t : Table) (ws : List ℕ) : Type 1 where
+  pub kept : ℕ → Type 0
+  pub pa : ℕ → ℕ
+  pub ra : ℕ → ℕ
+  pub objects : State
+  pub limits : t .limits ≡ l
+  pub long : 1 ≤ t .limits .s
+  pub inv : Inv kept (t .limits .p) (t .limits .s) objects
+  pub agree : Agree kept pa ra objects t ws
+  pub home : objects .on ≡ false → Home kept pa (objects .shape) (bottom t) (t .marks .a)
+  pub still : Still (objects .shape) (objects .prim) (objects .tasks) (objects .roots) w
+
+-- neither refusal 10 nor 11
+abbrev pub Undamaged : Answer → Type 0
+Undamaged Accepted = Unit {0}
+Undamaged Done = Unit {0}
+Undamaged (Value v) = Unit {0}
+Undamaged Moved = Unit {0}
+Undamaged (Wait q) = Unit {0}
+Undamaged (Report on live copies) = Unit {0}
+Undamaged (No WrongLimit) = Unit {0}
+Undamaged (No NoTask) = Unit {0}
+Undamaged (No NoRegister) = Unit {0}
+Undamaged (No NilObject) = Unit {0}
+Undamaged (No NoSlot) = Unit {0}
+Undamaged (No OutOfTurn) = Unit {0}
+Undamaged (No Held) = Unit {0}
+Undamaged (No SlotInStore) = Unit {0}
+Undamaged (No NoRoom) = Unit {0}
+Undamaged (No Exhausted) = ⊥
+Undamaged (No Damaged) = ⊥
+
+-- A step of task i, whose place was `before`, ends as e: the heap is exhausted, for the reason X; or the store that is
+-- told the kinds of action stands beside the table again, and the answer is neither 10 nor 11.
+abbrev pub Comes : Limits → Store → ℕ → Place → Type 0 → Ends → Type 1
+Comes l w i before X e =
+    ((e .out .answer ≡ No Exhausted) × X)
+    ⊎ (Good l (happenAll w i (stepKinds (e .out .answer) before (taskAt (e .out .table) i .place))) (e .out .table) (e .words) × Undamaged (e .out .answer))
+
+-- the place of an entry just changed
+pub place-entered : (t : Table) (m : Marks) (i : ℕ) (e : Task) → length (t .tasks) ≡ 8 → i < 8 → taskAt (entered t m i e) i ≡ e
+place-entered t m i e n l = getD-set-same (t .tasks) i e noTask (omega arith)
+
+-- the task moved on
+module _ {l : Limits} {w : Store} {t : Table} {ws : List ℕ} (g : Good l w t ws) (i : ℕ) (below : i < 8) where
+  pub comes-moved : (before : Place) (X : Type 0) (K : ℕ → Type 0) (pa ra : ℕ → ℕ) (o : State) → o .on ≡ true → (m : Marks) (pending : Pending) (place : Place) (e : Task) (ws′ : List ℕ)
+      → movedTable t i m pending place ≡ entered t m i (atTask pa ra e) → Inv K (t .limits .p) (t .limits .s) o → Agree K pa ra o (entered t m i (atTask pa ra e)) ws′
+      → Still (o .shape) (o .prim) (o .tasks) (o .roots) (happenAll w i (movedKinds before (atTask pa ra e .place)))
+      → Comes l w i before X (ends (out (movedTable t i m pending place) Moved) ws′)
+  comes-moved before X K pa ra o live m pending place e ws′ q inv agree still =
+      inr (
+        rw (q, place-entered t m i (atTask pa ra e) (g .agree .eight) below)
+            (record { kept = K; pa = pa; ra = ra; objects = o; limits = g .limits; long = g .long; inv = inv; agree = agree; home = λ f. off-on (sym f ∙ live); still = still }),
+        tt,
+      )
+
+  -- the task waits: nothing changed
+  pub comes-wait : (before : Place) (X : Type 0) (q : ℕ) → Comes l w i before X (ends (out t (Wait q)) ws)
+  unfolding happenAll
+  comes-wait before X q = inr (g, tt)

@@ -1,0 +1,110 @@
+-- The steps of a payment: take, read, put, release.
+use Prim.Native.Nat.{ℕ, zero, suc, _+_, _-_, _≤_, _<_}
+use mathlib.Core.Path.{_≡_, refl, ap, sym, _∙_}
+use mathlib.Core.Logic.{_≢_, _⊎_, inl, inr}
+use mathlib.Core.List.{List, [], _∷_}
+use mathlib.Core.Bool.{Bool, true, false}
+use native.Mathlib.Omega.{arith}
+use lib.ListN.{getD, set}
+use lib.Dec.{ltb, leb, eqb}
+use borrow.Author.Tests.{eqb-true, eqb-false, ne-eqb, lt-leb, lt-ltb, le-ltb}
+use Rattle.table.specs.declared.Limits.{Limits}
+use Rattle.table.specs.declared.Primary.{Primary}
+use Rattle.table.specs.declared.Operand.{Operand}
+use Rattle.table.specs.declared.Operand.the-variants.{Plain, Pointer}
+use Rattle.table.specs.declared.Copied.{Copied}
+use Rattle.table.specs.declared.Copied.the-variants.{Same, Renamed}
+use Rattle.table.specs.declared.Then.the-variants.{ToPut}
+use Rattle.table.specs.declared.Place.{Place}
+use Rattle.table.specs.declared.Place.the-variants.{Take, Read, Put, Release, Looking}
+use Rattle.table.specs.declared.Sought.the-variants.{Worker}
+use Rattle.table.specs.declared.Answer.the-variants.{Done, Moved}
+use Rattle.table.specs.declared.Task.{Task}
+use Rattle.table.specs.declared.Table.{Table}
+use Rattle.machine.specs.Basics.{pick}
+use Rattle.machine.specs.Words.{primary, replica, copiedWord}
+use Rattle.machine.specs.Entries.{taskAt, movedTable, marksAt, out, ends}
+use Rattle.machine.specs.Look.{lookAhead}
+use Rattle.machine.specs.Switch.{finishOf}
+use Rattle.machine.specs.Pay.{takeOf, readOf, putOf, paid, releaseOf}
+use Rattle.machine.specs.Step.{waitOf, settle, settleOf, emptyTakeOf, takeStepOf}
+use Rattle.machine.specs.Tasks.{holdingOf, greyOf}
+use Rattle.machine.specs.StillStore.{Store, Doing, ownerAt, happenAll, isResting}
+use Rattle.machine.specs.Objects.State.{Hd, white, claimed, count, locked, State, IsPlaced, isRenamed, jobsIn, Late}
+use Rattle.machine.specs.Objects.Inv.{Inv, Sound, Colours, Mode, SoundOperand, SoundCopied}
+use Rattle.machine.specs.Objects.Ops.{goes, moves, heads, copies, push}
+use Rattle.machine.specs.Objects.MoveLaws.{at-place}
+use Rattle.machine.specs.Objects.PaySteps.{takes, reads, puts, releases}
+use Rattle.machine.specs.Objects.Ends.{take-ends, release-ends}
+use Rattle.machine.specs.Agree.Encode.{atPrimary, atCopied, atPlace, atTask}
+use Rattle.machine.specs.Agree.Agree.{Agree, Held, end}
+use Rattle.machine.specs.Agree.Read.{object-of, copyingIs, copying-of, slot-of, stack-of, stack-room, stack-empty}
+use Rattle.machine.specs.Agree.Enter.{moves-agree, job-counted}
+use Rattle.machine.specs.Agree.Heads.{take-agree, release-agree}
+use Rattle.machine.specs.Agree.Slots.{copies-agree}
+use Rattle.machine.specs.Agree.Search.{worker-found}
+use Rattle.machine.specs.Beside.Still.{DoingAt, Still}
+use Rattle.machine.specs.Beside.Doing.{still-goes}
+use Rattle.machine.specs.Beside.Good.{Good, Comes, comes-moved, comes-wait}
+use Rattle.machine.specs.Beside.Glue.{copied-word, at-ahead, look-placed, below, moved-goes, busy-at}
+use Rattle.machine.specs.Beside.Ending.{ends-comes}
+
+no-job : (pl : Place) (n : ℕ) → pl ≡ Take n → jobsIn (holdingOf pl) ≡ 0
+unfolding holdingOf
+no-job pl n e = rw e refl
+
+module _ {l : Limits} {w : Store} {t : Table} {ws : List ℕ} (g : Good l w t ws) (i : ℕ) (ip : i < t .limits .p) (X : Type 0) where
+  -- while collecting the headers have colours
+  colours : g .objects .on ≡ true → Colours (g .kept) (g .objects .shape) (g .objects .snap) (g .objects .hd) (g .objects .prim) (g .objects .rep) (g .objects .has) (g .objects .stack)
+      (Late (g .objects .tasks))
+  colours on = rw on at (g .inv .mode)
+
+  module _ (n : ℕ) (pe : g .objects .tasks i .place ≡ Take n) where
+    live : g .objects .on ≡ true
+    live = at-place (g .inv) i (Take n) pe .0
+
+    -- pop and lock
+    pops : (x : ℕ) (st : List ℕ) → g .objects .stack ≡ x ∷ st → Comes l w i (atPlace (g .pa) (g .ra) (Take n)) X (settle t i (takeOf (t .marks) ws (t .limits .s) n))
+    unfolding takeOf settleOf happenAll holdingOf
+    pops x st es =
+        let h = colours live .stacked x (rw es (inl refl)) in
+        let hx : Held (g .kept) (g .objects .shape) x = (h .0, h .1, h .2) in
+        let c = h .3 in
+        let e : g .objects .hd x ≡ count (suc c) = h .4 in
+        let z : suc c - 1 ≡ c = omega arith in
+        rw (
+          stack-of (g .agree) es,
+          look-placed (g .inv) (g .agree) x hx (rw e tt),
+          copying-of (g .inv) (g .agree) live x hx (rw e tt),
+          e,
+          ne-eqb (suc c) 0 (λ q. omega arith),
+          z,
+        )
+        (comes-moved g i (below g i ip) (atPlace (g .pa) (g .ra) (Take n)) X (g .kept) (g .pa) (g .ra)
+        (heads (g .objects) x (locked c i) st i (goes (g .objects .tasks i) (Read n (primary x) c))) live _ _ _ (goes (g .objects .tasks i) (Read n (primary x) c)) _
+        (moved-goes g i ip (marksAt (t .marks .a) (t .marks .top + 1) (t .marks .j + 1) (t .marks .copies)) (Read n (primary x) c))
+        (takes (g .objects) i n x c st (g .inv) ip pe es e)
+        (take-agree (g .inv) (g .agree) i ip (goes (g .objects .tasks i) (Read n (primary x) c)) x c st es e live (rw pe (omega arith)))
+        (still-goes (g .still) i (below g i ip) (Read n (primary x) c) (busy-at g i ip (Take n) pe tt)))
+
+    -- nothing on the stack: the payment ends if nothing is grey, else it waits
+    finds-nothing : g .objects .stack ≡ [] → Comes l w i (atPlace (g .pa) (g .ra) (Take n)) X (emptyTakeOf t ws i)
+    unfolding emptyTakeOf
+    finds-nothing es = on (greyOf (t .marks) (end t) (t .tasks) (t .limits .p)) refl
+      where
+        on : (b : Bool) → greyOf (t .marks) (end t) (t .tasks) (t .limits .p) ≡ b
+            → Comes l w i (atPlace (g .pa) (g .ra) (Take n)) X
+            (pick b (ends (waitOf t (Worker i)) ws) (finishOf t ws i (t .marks) (taskAt t i .pending) Done))
+        on true e =
+            let f = worker-found (g .agree) (g .inv) i n pe (stack-empty (g .agree) es) e in
+            rw (f .1) (comes-wait g i (below g i ip) (atPlace (g .pa) (g .ra) (Take n)) X (f .0))
+        on false e = ends-comes g i ip (atPlace (g .pa) (g .ra) (Take n)) X Done tt (λ after. refl) (no-job (g .objects .tasks i .place) n pe) (take-ends (g .objects) i n (g .inv) ip pe)
+
+    pub take-comes : Comes l w i (atPlace (g .pa) (g .ra) (Take n)) X (takeStepOf t ws i n)
+    unfolding takeStepOf
+    take-comes = on (g .objects .stack) refl
+      where
+        on : (st : List ℕ) → g .objects .stack ≡ st → Comes l w i (atPlace (g .pa) (g .ra) (Take n)) X
+            (pick (ltb (t .marks .top) (end t)) (settle t i (takeOf (t .marks) ws (t .limits .s) n)) (emptyTakeOf t ws i))
+        on [] e = rw (le-ltb (t .marks .top) (end t) (omega (arith, stack-empty (g .agree) e))) (finds-nothing e)
+        on (x ∷ st) e = rw (lt-ltb (t .marks .top) (end t) (stack-room (g .agree) e)) (pops x st e)

@@ -35,3 +35,4 @@ pub mod Steps
 pub mod Start
 pub mod Run
 pub mod Demand2
+pub mod Collecting

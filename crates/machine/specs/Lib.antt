@@ -30,5 +30,7 @@ pub mod Kinds
 pub mod StillRun
 pub mod Objects
 pub mod Agree
+pub mod Live
+pub mod History
 pub mod Beside
 pub mod Promises

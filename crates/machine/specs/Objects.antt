@@ -22,3 +22,4 @@ pub mod Ends
 pub mod Onward
 pub mod BeginSteps
 pub mod Start
+pub mod Counts

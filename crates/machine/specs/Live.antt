@@ -1,0 +1,6 @@
+pub mod Reachable
+pub mod Live
+pub mod SearchLaws
+pub mod Laws
+pub mod Filled
+pub mod Run

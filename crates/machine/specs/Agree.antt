@@ -29,3 +29,5 @@ pub mod FlipStart
 pub mod FlipVisit
 pub mod FlipWords
 pub mod Home
+pub mod FlipTally
+pub mod FlipRoom

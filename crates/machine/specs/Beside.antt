@@ -36,3 +36,12 @@ pub mod Start
 pub mod Run
 pub mod Demand2
 pub mod Collecting
+pub mod Histories
+pub mod Stands
+pub mod Exactly
+pub mod Lives
+pub mod Totals
+pub mod Reached
+pub mod LivedAt
+pub mod Awake
+pub mod Collects

@@ -77,11 +77,14 @@ isFlip false b = b
 abbrev pub flipHistory : Table → List ℕ → History
 flipHistory t ws = record { copies = []; live = liveOf t ws; words = sizeOf t ws; filled = filledAt t ws }
 
+abbrev pub withCopies : History → List Copy → History
+withCopies h cs = record { copies = cs; live = h .live; words = h .words; filled = h .filled }
+
 -- a step of a task that was at this place: from table t and words ws to e
 abbrev pub stepHistory : Table → List ℕ → Place → Ends → History → History
 stepHistory t ws before e h =
     pick (isFlip (t .on) (e .out .table .on)) (flipHistory t ws)
-    (record { copies = withCopy before (e .out .answer) (h .copies); live = h .live; words = h .words; filled = h .filled })
+    (withCopies h (withCopy before (e .out .answer) (h .copies)))
 
 abbrev pub historyAfter : Call → Ends → Ends → History → History
 historyAfter (Call.New task r len m) e f h = h

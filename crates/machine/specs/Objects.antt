@@ -23,3 +23,9 @@ pub mod Onward
 pub mod BeginSteps
 pub mod Start
 pub mod Counts
+pub mod CountLaws
+pub mod CountHeads
+pub mod CountFinal
+pub mod FlipCounts
+pub mod CountBound
+pub mod CountFills

@@ -1,5 +1,5 @@
 -- The passes of the flip: what was visited is exactly the pending objects, the roots and the registers, or there was no room.
-use Prim.Native.Nat.{ℕ, zero, suc, _-_, _≤_, _<_}
+use Prim.Native.Nat.{ℕ, zero, suc, _≤_, _<_}
 use mathlib.Core.Path.{_≡_, refl, ap, sym, subst, _∙_}
 use mathlib.Core.Logic.{_⊎_, inl, inr}
 use mathlib.Core.List.{List, [], _∷_, map}
@@ -21,7 +21,7 @@ use Rattle.machine.specs.Objects.State.{State, root, pendingIs}
 use Rattle.machine.specs.Objects.Inv.{Sound, Inv}
 use Rattle.machine.specs.Objects.Flipped.{Comes}
 use Rattle.machine.specs.Agree.Encode.{atPrimary, atTask}
-use Rattle.machine.specs.Agree.FlipVisit.{Visited, After, AfterPass, root-visit, pending-visit}
+use Rattle.machine.specs.Agree.FlipVisit.{Visited, Cramped, After, AfterPass, root-visit, pending-visit}
 
 -- ---- sets of objects
 -- the list has exactly the objects of D
@@ -63,7 +63,7 @@ module _ (K : ℕ → Type 0) (pa : ℕ → ℕ) (o : State) (base end size : �
   -- a pass that goes on has visited exactly the objects of D; one that stops found no room
   abbrev pub SomePass : (ℕ → Type 0) → Pass → List ℕ → Type 0
   SomePass D (On m) ws = (vs : List ℕ) × Exact D vs × Visited K pa o base end size vs m ws
-  SomePass D (Stopped x) ws = x ≡ refusal 10
+  SomePass D (Stopped x) ws = (x ≡ refusal 10) × Cramped K pa o base end size
 
   abbrev pub Some : (ℕ → Type 0) → Went → Type 0
   Some D w = SomePass D (w .pass) (w .words)
@@ -114,9 +114,9 @@ module _ (K : ℕ → Type 0) (pa : ℕ → ℕ) (o : State) (base end size : �
 
   module _ (p s : ℕ) (v : Inv K p s o) (off : o .on ≡ false) (s-high : s ≤ 255) (b-low : 2 ≤ base) (nilp : pa 0 ≡ 0) where
     -- the roots, or the registers of one task
-    row-pass : (D : ℕ → Type 0) → D 0 → (l : List Primary) → length l ≡ 8 → ((r : ℕ) → Sound K (o .shape) (root l r)) → (vs : List ℕ) (m : Marks) (ws : List ℕ) → Exact D vs
-        → Visited K pa o base end size vs m ws → Some (Plus D (root l) 8) (passOf (visitOf end s) (map (atPrimary pa) l) m ws)
-    row-pass D d l e q vs m ws k a =
+    row-pass : (D : ℕ → Type 0) → D 0 → (l : List Primary) → length l ≡ 8 → ((r : ℕ) → Sound K (o .shape) (root l r)) → ((r : ℕ) → Comes o (root l r))
+        → (vs : List ℕ) (m : Marks) (ws : List ℕ) → Exact D vs → Visited K pa o base end size vs m ws → Some (Plus D (root l) 8) (passOf (visitOf end s) (map (atPrimary pa) l) m ws)
+    row-pass D d l e q c vs m ws k a =
         rw (length-map l (atPrimary pa), e)
         at (some-pass (visitOf end s) (atPrimary pa nil) (Plus D (root l)) (map (atPrimary pa) l) step vs m ws (exact-start D (root l) vs k) a)
       where
@@ -125,7 +125,7 @@ module _ (K : ℕ → Type 0) (pa : ℕ → ℕ) (o : State) (base end size : �
         step r i vs m ws k a =
             rw (List·getD-map (atPrimary pa) l r nil)
             (after-some (Plus D (root l) (suc r)) (root l r ∷ vs) (visitOf end s (primary (pa (root l r))) m ws) (exact-more D (root l) r vs k)
-            (root-visit K pa o base end size p s v off s-high b-low nilp vs m ws a (root l r) (q r) (nil-plus D (root l) r vs d k)))
+            (root-visit K pa o base end size p s v off s-high b-low nilp vs m ws a (root l r) (q r) (c r) (nil-plus D (root l) r vs d k)))
 
     module _ (ra : ℕ → ℕ) (es : List Task) (same : (r : ℕ) → r < length es → getD es r noTask ≡ atTask pa ra (o .tasks r)) where
       pending-pass : (vs : List ℕ) (m : Marks) (ws : List ℕ) → Exact Nil vs → Visited K pa o base end size vs m ws
@@ -145,8 +145,8 @@ module _ (K : ℕ → Type 0) (pa : ℕ → ℕ) (o : State) (base end size : �
           step r i vs m ws k a =
               rw (same r i)
               (after-some (Plus Nil pends (suc r)) (pends r ∷ vs) (pendingPass end s (atTask pa ra (o .tasks r)) m ws) (exact-more Nil pends r vs k)
-              (pending-visit K pa o base end size p s v off s-high b-low nilp vs m ws a (o .tasks r .pending) (v .entries r .pending) (nil-plus Nil pends r vs refl k)
-              (fresh r vs k)))
+              (pending-visit K pa o base end size p s v off s-high b-low nilp vs m ws a (o .tasks r .pending) (v .entries r .pending) (inr (inl (r, refl)))
+              (nil-plus Nil pends r vs refl k) (fresh r vs k)))
 
       registers-pass : (D : ℕ → Type 0) → D 0 → (vs : List ℕ) (m : Marks) (ws : List ℕ) → Exact D vs → Visited K pa o base end size vs m ws
           → Some (RegsTo D (length es)) (passOf (registerPass end s) es m ws)
@@ -154,7 +154,9 @@ module _ (K : ℕ → Type 0) (pa : ℕ → ℕ) (o : State) (base end size : �
         where
           step : (r : ℕ) → r < length es → (vs : List ℕ) (m : Marks) (ws : List ℕ) → Exact (RegsTo D r) vs → Visited K pa o base end size vs m ws
               → Some (RegsTo D (suc r)) (registerPass end s (getD es r noTask) m ws)
-          step r i vs m ws k a = rw (same r i) (row-pass (RegsTo D r) (regs-nil D r d) (o .tasks r .regs) (v .entries r .eight) (v .entries r .regs) vs m ws k a)
+          step r i vs m ws k a =
+              rw (same r i)
+              (row-pass (RegsTo D r) (regs-nil D r d) (o .tasks r .regs) (v .entries r .eight) (v .entries r .regs) (λ q. inr (inr (inr (r, q, refl)))) vs m ws k a)
 
       -- all three
       pub three-passes : length es ≡ p → (roots : List Primary) → roots ≡ map (atPrimary pa) (o .roots) → (vs : List ℕ) (m : Marks) (ws : List ℕ) → Exact Nil vs
@@ -166,10 +168,10 @@ module _ (K : ℕ → Type 0) (pa : ℕ → ℕ) (o : State) (base end size : �
           let D₂ : ℕ → Type 0 = Plus (Plus Nil pends (length es)) (root (o .roots)) 8 in
           some-next D₂ (RegsTo D₂ (length es)) (next (passOf (pendingPass end s) es m ws) (passOf (visitOf end s) roots)) (passOf (registerPass end s) es)
           (some-next D₁ D₂ (passOf (pendingPass end s) es m ws) (passOf (visitOf end s) roots) (pending-pass vs m ws k a)
-          (λ vs m ws k a. rw e (row-pass D₁ (inl refl) (o .roots) (v .eight) (v .roots) vs m ws k a)))
+          (λ vs m ws k a. rw e (row-pass D₁ (inl refl) (o .roots) (v .eight) (v .roots) (λ q. inr (inr (inl (q, refl)))) vs m ws k a)))
           (registers-pass D₂ (inl (inl refl))))
 
-    -- ---- the visited are the roots of the collection
+    -- ---- all that comes is visited
     regs-in : (D : ℕ → Type 0) (i y : ℕ) → D y → RegsTo D i y
     regs-in D zero y d = d
     regs-in D (suc i) y d = inl (regs-in D i y d)
@@ -181,20 +183,6 @@ module _ (K : ℕ → Type 0) (pa : ℕ → ℕ) (o : State) (base end size : �
         go : Dec (t ≡ i) → (t < i → RegsTo D i (root (o .tasks t .regs) r)) → RegsTo D (suc i) (root (o .tasks t .regs) r)
         go (yes e) ih = inr (r, m, ap (λ (z : ℕ). root (o .tasks z .regs) r) (sym e))
         go (no n) ih = inl (ih (omega (arith, l, n)))
-
-    reg-out : (D : ℕ → Type 0) (i y : ℕ) → RegsTo D i y → D y ⊎ ((t : ℕ) × (r : ℕ) × (root (o .tasks t .regs) r ≡ y))
-    reg-out D zero y d = inl d
-    reg-out D (suc i) y (inl d) = reg-out D i y d
-    reg-out D (suc i) y (inr (r, l, e)) = inr (i, r, e)
-
-    pub all-comes : (x : ℕ) → All p x → Comes o x
-    all-comes x a = go (reg-out (Plus (Plus Nil pends p) (root (o .roots)) 8) p x a)
-      where
-        go : Plus (Plus Nil pends p) (root (o .roots)) 8 x ⊎ ((t : ℕ) × (r : ℕ) × (root (o .tasks t .regs) r ≡ x)) → Comes o x
-        go (inl (inl (inl e))) = inl e
-        go (inl (inl (inr (u, l, e)))) = inr (inl (u, e))
-        go (inl (inr (r, l, e))) = inr (inr (inl (r, e)))
-        go (inr w) = inr (inr (inr w))
 
     pub comes-all : (x : ℕ) → Comes o x → All p x
     comes-all x (inl e) = regs-in (Plus (Plus Nil pends p) (root (o .roots)) 8) p x (inl (inl e))

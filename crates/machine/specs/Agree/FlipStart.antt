@@ -1,6 +1,6 @@
 -- Before the flip's first visit: the space to come is empty, and no kept object has a word in it. Fewer kept objects, and other headers of
 -- objects that are still to be made, leave the agreement as it is.
-use Prim.Native.Nat.{ℕ, zero, suc, _+_, _-_, _≤_, _<_}
+use Prim.Native.Nat.{ℕ, zero, suc, _+_, _≤_, _<_}
 use mathlib.Core.Path.{_≡_, refl, ap, sym, subst, _∙_}
 use mathlib.Core.Logic.{_⊎_, inl, inr}
 use mathlib.Core.List.{List, [], _∷_}
@@ -12,16 +12,18 @@ use Rattle.table.specs.declared.Marks.{Marks}
 use Rattle.table.specs.declared.Table.{Table}
 use Rattle.machine.specs.Words.{bottomOf, endOf}
 use Rattle.machine.specs.Flip.{emptySpace}
-use Rattle.machine.specs.Objects.Base.{sumTo, sumTo-ext}
+use Rattle.machine.specs.Objects.Base.{sumTo-ext}
 use Rattle.machine.specs.Objects.State.{Hd, Shape, State, IsPlaced, owes}
 use Rattle.machine.specs.Objects.Inv.{Off, Inv}
 use Rattle.machine.specs.Objects.FlipInv.{mid-start}
+use Rattle.machine.specs.Objects.FlipCounts.{sum-none}
 use Rattle.machine.specs.Agree.Encode.{copyWord, headerWord}
 use Rattle.machine.specs.Agree.Mem.{P, R, S, Holds}
 use Rattle.machine.specs.Agree.Agree.{Held, addr, Ok, content, Lay, bottom, end, Agree}
 use Rattle.machine.specs.Agree.Midway.{Midway}
 use Rattle.machine.specs.Agree.MidwayRead.{space-high}
 use Rattle.machine.specs.Agree.Home.{Home}
+use Rattle.machine.specs.Agree.FlipTally.{none-twinned, none-grey}
 use Rattle.machine.specs.Agree.FlipVisit.{Visited}
 
 -- ---- fewer kept objects
@@ -111,14 +113,6 @@ room-in : (upper : Bool) (h : ℕ) → bottomOf upper h ≤ endOf upper h
 unfolding endOf
 room-in upper h = omega arith
 
-sum-zero : (n : ℕ) → sumTo n (λ x. 0) ≡ 0
-unfolding sumTo
-sum-zero zero = refl
-sum-zero (suc n) = omega (arith, sum-zero n)
-
-pub sum-none : (n : ℕ) (f : ℕ → ℕ) → ((x : ℕ) → x < n → f x ≡ 0) → sumTo n f ≡ 0
-sum-none n f h = sumTo-ext n f (λ x. 0) h ∙ sum-zero n
-
 module _ {K : ℕ → Type 0} {p s : ℕ} {pa ra : ℕ → ℕ} {o : State} {t : Table} {ws : List ℕ} (v : Inv K p s o) (k : Agree K pa ra o t ws) (off : o .on ≡ false)
     (home : Home K pa (o .shape) (bottom t) (t .marks .a)) where
   abbrev base : ℕ
@@ -177,4 +171,7 @@ module _ {K : ℕ → Type 0} {p s : ℕ} {pa ra : ℕ → ℕ} {o : State} {t :
     jobs = refl;
     copies = refl;
     long = refl;
+    comes = λ x. elim [ inl e ↦ inl e | inr i ↦ absurd i ];
+    tally = omega (arith, none-twinned (o .shape) (o .hd) (v .shapes .nil) (off-all .all));
+    greys = omega (arith, ap length (off-all .empty), none-grey (o .shape) (o .hd) (v .shapes .nil) (off-all .all));
   }

@@ -1,5 +1,5 @@
 -- One visit of the flip: an object that has no replica yet is given one, or there is no room; nil and one that has its replica are passed over.
-use Prim.Native.Nat.{ℕ, _+_, _-_, _≤_, _<_}
+use Prim.Native.Nat.{ℕ, _+_, _≤_, _<_}
 use mathlib.Core.Path.{_≡_, refl, ap, sym, _∙_}
 use mathlib.Core.Logic.{_≢_, inl, inr}
 use mathlib.Core.List.{List, [], _∷_}
@@ -19,15 +19,18 @@ use Rattle.machine.specs.Numbers.{refusal}
 use Rattle.machine.specs.Words.{primary, lookOf, roomFor}
 use Rattle.machine.specs.Flip.{Went, went, placing, visitCase, visitOf, visitPendingOf}
 use Rattle.machine.specs.Objects.Base.{off-on, upd, In}
-use Rattle.machine.specs.Objects.State.{white, State, IsPlaced, pendingIs}
+use Rattle.machine.specs.Objects.State.{white, State, IsPlaced, IsUnplaced, pendingIs}
 use Rattle.machine.specs.Objects.Inv.{Sound, PendingOk, Off, Inv}
 use Rattle.machine.specs.Objects.Ops.{twins}
+use Rattle.machine.specs.Objects.Flipped.{Comes}
 use Rattle.machine.specs.Objects.FlipInv.{Mid, mid-skip, mid-twin}
+use Rattle.machine.specs.Objects.FlipCounts.{twinned, greyOnes, in?}
 use Rattle.machine.specs.Agree.Encode.{atPending}
 use Rattle.machine.specs.Agree.Agree.{Held}
 use Rattle.machine.specs.Agree.Midway.{Midway, twinNeed, no-room, twin-length}
 use Rattle.machine.specs.Agree.MidwayRead.{foundBy, look-in}
 use Rattle.machine.specs.Agree.Twin.{twin}
+use Rattle.machine.specs.Agree.FlipTally.{more-twinned, more-grey, push-length}
 
 -- the heap o, in which the objects of vs have replicas: marks and words of the space to come
 pub record Visited (K : ℕ → Type 0) (pa : ℕ → ℕ) (o : State) (base end size : ℕ) (vs : List ℕ) (m : Marks) (ws : List ℕ) : Type 0 where
@@ -38,21 +41,28 @@ pub record Visited (K : ℕ → Type 0) (pa : ℕ → ℕ) (o : State) (base end
   pub jobs : m .j ≡ 0
   pub copies : m .copies ≡ 0
   pub long : length ws ≡ size
+  pub comes : (x : ℕ) → In x vs → Comes o x
+  -- every word below A is claimed, and every object with slots to copy is on the stack
+  pub tally : m .a ≡ base + twinned (o .shape) (objects .hd)
+  pub greys : length (objects .stack) ≡ greyOnes (o .shape) (objects .hd)
 
-in? : (x : ℕ) (l : List ℕ) → Dec (In x l)
-in? x [] = no (λ i. i)
-in? x (y ∷ l) = go (ℕ-discrete x y) (in? x l)
-  where
-    go : Dec (x ≡ y) → Dec (In x l) → Dec (In x (y ∷ l))
-    go (yes e) d = yes (inl e)
-    go (no f) (yes i) = yes (inr i)
-    go (no f) (no g) = no (elim [ inl e ↦ f e | inr i ↦ g i ])
+-- the visit that stops: an object that was not visited, and no room for its replica
+pub record Cramped (K : ℕ → Type 0) (pa : ℕ → ℕ) (o : State) (base end size : ℕ) : Type 0 where
+  pub before : List ℕ
+  pub marks : Marks
+  pub words : List ℕ
+  pub visited : Visited K pa o base end size before marks words
+  pub object : ℕ
+  pub held : Held K (o .shape) object
+  pub fresh : In object before → ⊥
+  pub comes : Comes o object
+  pub none : roomFor true marks end (twinNeed (o .shape .len object) (o .shape .fill object)) ≡ false
 
 module _ (K : ℕ → Type 0) (pa : ℕ → ℕ) (o : State) (base end size : ℕ) where
   -- a visit that goes on has visited the objects of vs; one that stops found no room
   abbrev pub AfterPass : List ℕ → Pass → List ℕ → Type 0
   AfterPass vs (On m) ws = Visited K pa o base end size vs m ws
-  AfterPass vs (Stopped x) ws = x ≡ refusal 10
+  AfterPass vs (Stopped x) ws = (x ≡ refusal 10) × Cramped K pa o base end size
 
   abbrev pub After : List ℕ → Went → Type 0
   After vs w = AfterPass vs (w .pass) (w .words)
@@ -80,14 +90,21 @@ module _ (K : ℕ → Type 0) (pa : ℕ → ℕ) (o : State) (base end size : �
     filled : (x : ℕ) → o .shape .fill x ≤ o .shape .len x
     filled x = omega (arith, v .shapes .filled x, v .shapes .written x)
 
+    comes-too : (x : ℕ) → Comes o x → (y : ℕ) → In y (x ∷ vs) → Comes o y
+    comes-too x f y (inl e) = rw e f
+    comes-too x f y (inr i) = k .comes y i
+
     -- an object that was not visited is given its replica
-    placing-it : (x : ℕ) → Held K (o .shape) x → (In x vs → ⊥) → After (x ∷ vs) (placing end (primary (pa x)) (o .shape .len x) (o .shape .fill x) m ws)
-    placing-it x h n = go (roomFor true m end (twinNeed (o .shape .len x) (o .shape .fill x))) refl
+    placing-it : (x : ℕ) → Held K (o .shape) x → Comes o x → (In x vs → ⊥) → After (x ∷ vs) (placing end (primary (pa x)) (o .shape .len x) (o .shape .fill x) m ws)
+    placing-it x h f n = go (roomFor true m end (twinNeed (o .shape .len x) (o .shape .fill x))) refl
       where
         go : (b : Bool) → roomFor true m end (twinNeed (o .shape .len x) (o .shape .fill x)) ≡ b
             → After (x ∷ vs) (placing end (primary (pa x)) (o .shape .len x) (o .shape .fill x) m ws)
         go true r =
-            let w = twin x (o .shape .fill x) (k .words) h (rw (white-still x (h .0) n) tt) (filled x) (v .shapes .written) target r in
+            let u : IsUnplaced (o₁ .hd x) = rw (white-still x (h .0) n) tt in
+            let w = twin x (o .shape .fill x) (k .words) h u (filled x) (v .shapes .written) target r in
+            let a = more-twinned (o .shape) (o₁ .hd) x (o .shape .fill x) (h .0) (h .1) u in
+            let b = more-grey (o .shape) (o₁ .hd) x (o .shape .fill x) (h .0) (h .1) u in
             rw (w .0) record {
               objects = twins o₁ x (o .shape .fill x);
               ra = upd (k .ra) x (m .a + 2);
@@ -96,8 +113,13 @@ module _ (K : ℕ → Type 0) (pa : ℕ → ℕ) (o : State) (base end size : �
               jobs = k .jobs;
               copies = k .copies;
               long = twin-length m ws (pa x) (o .shape .fill x) ∙ k .long;
+              comes = comes-too x f;
+              tally = omega (arith, k .tally, a);
+              greys = omega (arith, k .greys, b, push-length (o .shape .fill x) x (o₁ .stack));
             }
-        go false r = rw (no-room m end ws (pa x) (o .shape .len x) (o .shape .fill x) r) refl
+        go false r =
+            rw (no-room m end ws (pa x) (o .shape .len x) (o .shape .fill x) r)
+            (refl, record { before = vs; marks = m; words = ws; visited = k; object = x; held = h; fresh = n; comes = f; none = r })
 
     -- one that was visited, or nil
     passing-it : (x : ℕ) → In x vs → After (x ∷ vs) (went (On m) ws)
@@ -109,15 +131,18 @@ module _ (K : ℕ → Type 0) (pa : ℕ → ℕ) (o : State) (base end size : �
       jobs = k .jobs;
       copies = k .copies;
       long = k .long;
+      comes = comes-too x (k .comes x i);
+      tally = k .tally;
+      greys = k .greys;
     }
 
     look : (x : ℕ) → Held K (o .shape) x → lookOf ws s (primary (pa x)) ≡ foundBy (k .ra x) (o .shape .len x) (o₁ .hd x)
     look x h = look-in (k .words) s s-high x h (v .shapes .high x (h .1)) (v .shapes .low x (h .1)) b-low
 
     -- a root or a register
-    pub root-visit : (x : ℕ) → Sound K (o .shape) x → In 0 vs → After (x ∷ vs) (visitOf end s (primary (pa x)) m ws)
+    pub root-visit : (x : ℕ) → Sound K (o .shape) x → Comes o x → In 0 vs → After (x ∷ vs) (visitOf end s (primary (pa x)) m ws)
     unfolding visitOf
-    root-visit x q i = go (ℕ-discrete x 0)
+    root-visit x q c i = go (ℕ-discrete x 0)
       where
         held : x ≢ 0 → Held K (o .shape) x
         held f = (omega (arith, f), q .1, q .0)
@@ -126,18 +151,18 @@ module _ (K : ℕ → Type 0) (pa : ℕ → ℕ) (o : State) (base end size : �
         by f (yes j) = rw (look x (held f), k .mid .hd₁ x j (held f .0)) (passing-it x j)
         by f (no n) =
             rw (look x (held f), white-still x (held f .0) n)
-            (rw (q .2) at (placing-it x (held f) n))
+            (rw (q .2) at (placing-it x (held f) c n))
 
         go : Dec (x ≡ 0) → After (x ∷ vs) (pick (eqb (pa x) 0) (went (On m) ws) (visitCase end (primary (pa x)) m ws (lookOf ws s (primary (pa x)))))
         go (yes e) = rw (e, nilp) (passing-it 0 i)
         go (no f) = rw (ne-eqb (pa x) 0 (λ e. omega (arith, k .words .lay .inside x (held f)))) (by f (in? x vs))
 
     -- a pending object, not visited before
-    pub pending-visit : (q : Pending) → PendingOk K (o .shape) (o .hd) (o .on) q → In 0 vs → (0 < pendingIs q → In (pendingIs q) vs → ⊥)
+    pub pending-visit : (q : Pending) → PendingOk K (o .shape) (o .hd) (o .on) q → Comes o (pendingIs q) → In 0 vs → (0 < pendingIs q → In (pendingIs q) vs → ⊥)
         → After (pendingIs q ∷ vs) (visitPendingOf end s (atPending pa q) m ws)
     unfolding visitPendingOf
-    pending-visit Nothing w i n = passing-it 0 i
-    pending-visit (Making x r len f) w i n =
+    pending-visit Nothing w c i n = passing-it 0 i
+    pending-visit (Making x r len f) w c i n =
         let h : Held K (o .shape) (x .0) = (w .0, w .2, w .1) in
         rw (look (x .0) h, white-still (x .0) (w .0) (n (w .0)), w .4, le-ltb (o .shape .len (x .0)) (o .shape .fill (x .0)) (filled (x .0)))
-        (placing-it (x .0) h (n (w .0)))
+        (placing-it (x .0) h c (n (w .0)))

@@ -1,5 +1,5 @@
 -- The flip in words: 10 where a replica finds no room; else the visited objects have replicas in the space to come, and table and words agree.
-use Prim.Native.Nat.{ℕ, zero, suc, _-_, _<_}
+use Prim.Native.Nat.{ℕ, zero, suc, _+_, _<_}
 use mathlib.Core.Path.{_≡_, refl, ap, sym, _∙_}
 use mathlib.Core.Logic.{_⊎_, inl, inr}
 use mathlib.Core.List.{List, [], _∷_}
@@ -28,8 +28,10 @@ use Rattle.machine.specs.Objects.Base.{off-on, sumTo, In}
 use Rattle.machine.specs.Objects.State.{Hd, count, Shape, State, IsPlaced, jobsIn, Meeting}
 use Rattle.machine.specs.Objects.Inv.{PlaceOk, Off, Inv}
 use Rattle.machine.specs.Objects.Ops.{state, foundIn, flips}
-use Rattle.machine.specs.Objects.Flipped.{Comes}
+use Rattle.machine.specs.Objects.Flipped.{Restful, Comes}
 use Rattle.machine.specs.Objects.FlipInv.{Mid, readied}
+use Rattle.machine.specs.Objects.Counts.{Counts}
+use Rattle.machine.specs.Objects.FlipCounts.{twinned, greyOnes, sum-none, counts-flipped}
 use Rattle.machine.specs.Agree.Encode.{atPlace, atTask}
 use Rattle.machine.specs.Agree.Agree.{bottom, Agree}
 use Rattle.machine.specs.Agree.Midway.{Midway}
@@ -37,9 +39,9 @@ use Rattle.machine.specs.Agree.MidwayRead.{space-low}
 use Rattle.machine.specs.Agree.PlaceStep.{task-same}
 use Rattle.machine.specs.Agree.Rows.{length-first, getD-first, getD-behind}
 use Rattle.machine.specs.Agree.Home.{Home}
-use Rattle.machine.specs.Agree.FlipVisit.{Visited}
-use Rattle.machine.specs.Agree.FlipPass.{Some, SomePass, All, three-passes, all-comes, comes-all}
-use Rattle.machine.specs.Agree.FlipStart.{agree-fewer, midway-made, sum-none, flip-start}
+use Rattle.machine.specs.Agree.FlipVisit.{Visited, Cramped}
+use Rattle.machine.specs.Agree.FlipPass.{Some, SomePass, All, three-passes, comes-all}
+use Rattle.machine.specs.Agree.FlipStart.{agree-fewer, midway-made, flip-start}
 
 -- ---- entries
 at-unasked : (pa ra : ℕ → ℕ) (pl : Place) → unasked (atPlace pa ra pl) ≡ atPlace pa ra (unasked pl)
@@ -104,6 +106,11 @@ pub record FlipMade (K : ℕ → Type 0) (pa : ℕ → ℕ) (o : State) (t : Tab
   pub only : (x : ℕ) → In x visited → Comes o x
   pub all : (x : ℕ) → Comes o x → In x visited
   pub agree : Agree K pa ra (flips (readied objects) visited (λ i. unaskedEntry (o .tasks i))) (flipped t marks) words
+  -- every word below A is of a replica, every object with slots to copy is on the stack; no job, no copy
+  pub tally : marks .a ≡ bottomOf (not (t .upper)) (t .limits .h) + twinned (o .shape) (objects .hd)
+  pub greys : length (objects .stack) ≡ greyOnes (o .shape) (objects .hd)
+  pub idle-j : marks .j ≡ 0
+  pub no-copies : marks .copies ≡ 0
 
 module _ {K : ℕ → Type 0} {pa ra : ℕ → ℕ} {o : State} {t : Table} {ws : List ℕ} (v : Inv K (t .limits .p) (t .limits .s) o) (k : Agree K pa ra o t ws)
     (off : o .on ≡ false) (home : Home K pa (o .shape) (bottom t) (t .marks .a)) where
@@ -205,14 +212,15 @@ module _ {K : ℕ → Type 0} {pa ra : ℕ → ℕ} {o : State} {t : Table} {ws 
     agree-flips : Agree K pa (d .ra) (flips (readied o₁) vs ts′) (flipped t m) ws′
     agree-flips = rw same-state agree-now
 
-  -- 10, or the flip is made
-  pub flip-words : (flipOf t ws ≡ ends (refused t (refusal 10)) (passesOf t ws .words)) ⊎ FlipMade K pa o t ws
+  -- the passes stop at an object that finds no room, or the flip is made
+  pub flip-either : ((passesOf t ws .pass ≡ Stopped (refusal 10)) × Cramped K pa o (bottomOf (not (t .upper)) (t .limits .h)) (endOf (not (t .upper)) (t .limits .h)) (length ws))
+      ⊎ FlipMade K pa o t ws
   unfolding flipOf
-  flip-words = go (passesOf t ws .pass) refl some-flip
+  flip-either = go (passesOf t ws .pass) refl some-flip
     where
       go : (x : Pass) → passesOf t ws .pass ≡ x → SomePass K pa o base end′ (length ws) (All K pa o base end′ (length ws) (t .limits .p)) x (passesOf t ws .words)
-          → (ends (flipEnd t (passesOf t ws .pass)) (passesOf t ws .words) ≡ ends (refused t (refusal 10)) (passesOf t ws .words)) ⊎ FlipMade K pa o t ws
-      go (Stopped x) e a = inl (rw (e, a) refl)
+          → ((passesOf t ws .pass ≡ Stopped (refusal 10)) × Cramped K pa o base end′ (length ws)) ⊎ FlipMade K pa o t ws
+      go (Stopped x) e a = inl (e ∙ ap Stopped (a .0), a .1)
       go (On m) e (vs, b, d) = inr record {
         marks = m;
         words = passesOf t ws .words;
@@ -221,13 +229,34 @@ module _ {K : ℕ → Type 0} {pa ra : ℕ → ℕ} {o : State} {t : Table} {ws 
         ra = d .ra;
         flip = rw e refl;
         mid = d .mid;
-        only = λ x i. all-comes K pa o base end′ (length ws) (t .limits .p) (t .limits .s) v off (k .sized .limited .s-high) (space-low (not (t .upper)) (t .limits .h)) (k .lay .nilp) x (b .0 x i);
+        only = d .comes;
         all = λ x c. b .1 x (comes-all K pa o base end′ (length ws) (t .limits .p) (t .limits .s) v off (k .sized .limited .s-high) (space-low (not (t .upper)) (t .limits .h)) (k .lay .nilp) x c);
         agree = agree-flips m (passesOf t ws .words) vs d;
+        tally = d .tally;
+        greys = d .greys;
+        idle-j = d .jobs;
+        no-copies = d .copies;
       }
+
+  -- 10, or the flip is made
+  pub flip-words : (flipOf t ws ≡ ends (refused t (refusal 10)) (passesOf t ws .words)) ⊎ FlipMade K pa o t ws
+  unfolding flipOf
+  flip-words = go flip-either
+    where
+      go : ((passesOf t ws .pass ≡ Stopped (refusal 10)) × Cramped K pa o base end′ (length ws)) ⊎ FlipMade K pa o t ws
+          → (ends (flipEnd t (passesOf t ws .pass)) (passesOf t ws .words) ≡ ends (refused t (refusal 10)) (passesOf t ws .words)) ⊎ FlipMade K pa o t ws
+      go (inl (e, a)) = inl (rw e refl)
+      go (inr f) = inr f
 
 -- with the objects that the flip keeps, or any fewer
 pub flip-agree : {K : ℕ → Type 0} {pa : ℕ → ℕ} {o : State} {t : Table} {ws : List ℕ} (f : FlipMade K pa o t ws) (K′ : ℕ → Type 0) → ((x : ℕ) → K′ x → K x)
     → (flipOf t ws ≡ ends (out (flipped t (f .marks)) Moved) (f .words))
     × Agree K′ pa (f .ra) (flips (readied (f .objects)) (f .visited) (λ i. unaskedEntry (o .tasks i))) (flipped t (f .marks)) (f .words)
 flip-agree f K′ h = (f .flip, agree-fewer h (f .agree))
+
+-- words, copies and payments in the heap that the flip leaves, with the table's numbers
+pub made-counts : {K : ℕ → Type 0} {pa : ℕ → ℕ} {o : State} {t : Table} {ws : List ℕ} → Inv K (t .limits .p) (t .limits .s) o → o .on ≡ false
+    → ((i : ℕ) → Restful (o .tasks i .place)) → (f : FlipMade K pa o t ws)
+    → Counts (t .limits .k) (t .limits .p) (t .limits .s) (f .objects .shape) (foundIn (readied (f .objects)) (f .visited)) (readied (f .objects) .hd) (f .objects .stack)
+    (λ i. unaskedEntry (o .tasks i)) (bottom (flipped t (f .marks))) (f .marks .a) (f .marks .j) (f .marks .copies) [] (λ i. 0)
+made-counts {t = t} v off rest f = counts-flipped v off rest (f .mid) (t .limits .k) (f .tally) (f .greys) (f .idle-j) (f .no-copies)

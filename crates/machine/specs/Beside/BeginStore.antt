@@ -19,6 +19,7 @@ use Rattle.table.specs.declared.Primary.{Primary}
 use Rattle.table.specs.declared.Table.{Table}
 use Rattle.table.specs.declared.Answer.{Answer}
 use Rattle.table.specs.declared.Answer.the-variants.{Accepted, No}
+use Rattle.machine.specs.History.{History}
 use Rattle.machine.specs.Basics.{pick}
 use Rattle.machine.specs.Numbers.{refusal}
 use Rattle.machine.specs.Words.{primary, operandWord, objectOf}
@@ -27,7 +28,7 @@ use Rattle.machine.specs.Tasks.{holdingOf, slotTaken}
 use Rattle.machine.specs.Begin.{heldAt, isPointer, sameTest, storePlace, storeSlot, storeFrom, beginStoreOf, beginStorePointerOf}
 use Rattle.machine.specs.Call.{Call}
 use Rattle.machine.specs.StillStore.{Store, storing, doing, happenAll, told}
-use Rattle.machine.specs.Objects.State.{root, jobsIn}
+use Rattle.machine.specs.Objects.State.{root, jobsIn, ClaimIn}
 use Rattle.machine.specs.Objects.Inv.{Sound, SoundOperand}
 use Rattle.machine.specs.Objects.BeginSteps.{begin-store, slot-sound}
 use Rattle.machine.specs.Agree.Encode.{atOperand, atPlace}
@@ -37,12 +38,28 @@ use Rattle.machine.specs.Agree.Read.{object-of, pointer-word}
 use Rattle.machine.specs.Agree.Search.{slot-free}
 use Rattle.machine.specs.Agree.Complete.{register-of}
 use Rattle.machine.specs.Beside.Still.{DoingAt}
+use Rattle.machine.specs.Objects.Counts.{leftToPay}
+use Rattle.machine.specs.Beside.Stands.{Stands}
 use Rattle.machine.specs.Beside.Good.{Good}
 use Rattle.machine.specs.Beside.Glue.{below}
 use Rattle.machine.specs.Beside.Registers.{sound-register, held-is}
 use Rattle.machine.specs.Beside.Begins.{Keeps, either, same-test, at-pointer, begun-good, no-keeps, gate-keeps, pair-keeps, idle-keeps}
 
 -- ---- the place of a Store just begun
+-- a Store that begins is busy, pays nothing yet and claims nothing
+begun-stands : (on : Bool) (old : ℕ) (v : Operand) → Stands (storePlace on old v) × (leftToPay (storePlace on old v) ≡ 0) × ((x : ℕ) → ClaimIn (holdingOf (storePlace on old v)) x → ⊥)
+unfolding holdingOf
+begun-stands on old (Plain n) = (tt, refl, λ x h. h)
+begun-stands on old (Pointer q) = choose-place on (eqb old 0)
+  where
+    choose-place : (a c : Bool)
+        → Stands (pick a (pick c (StoreWrite (Pointer q)) (Looking (primary old) (ToWrite (Pointer q)))) (StoreWrite (Pointer q)))
+        × (leftToPay (pick a (pick c (StoreWrite (Pointer q)) (Looking (primary old) (ToWrite (Pointer q)))) (StoreWrite (Pointer q))) ≡ 0)
+        × ((x : ℕ) → ClaimIn (holdingOf (pick a (pick c (StoreWrite (Pointer q)) (Looking (primary old) (ToWrite (Pointer q)))) (StoreWrite (Pointer q)))) x → ⊥)
+    choose-place true true = (tt, refl, λ x h. h)
+    choose-place true false = (tt, refl, λ x h. h)
+    choose-place false c = (tt, refl, λ x h. h)
+
 begun-jobs : (on : Bool) (old : ℕ) (v : Operand) → jobsIn (holdingOf (storePlace on old v)) ≡ 0
 unfolding holdingOf
 begun-jobs on old (Plain u) = refl
@@ -65,7 +82,7 @@ begun-doing regs d true old x i (Pointer q) = by (eqb old 0)
     by true = refl
     by false = refl
 
-module _ {l : Limits} {w : Store} {t : Table} {ws : List ℕ} (g : Good l w t ws) where
+module _ {l : Limits} {w : Store} {hy : History} {t : Table} {ws : List ℕ} (g : Good l w hy t ws) where
   -- by the machine's words as by the objects' numbers
   begun-at : (x i : ℕ) → Sound (g .kept) (g .objects .shape) x → 0 < x → i < g .objects .shape .len x → (v : Operand)
       → isPointer v ≡ ltb i (g .objects .shape .ptr x)
@@ -98,36 +115,38 @@ module _ {l : Limits} {w : Store} {t : Table} {ws : List ℕ} (g : Good l w t ws
       (z : Sound (g .kept) (g .objects .shape) x) (v : Operand) (sv : SoundOperand (g .kept) (g .objects .shape) v)
       (a : f Accepted ≡ doing w task (storing x i (operandWord v))) where
     -- nothing refuses it
-    begins : g .objects .tasks task .place ≡ Idle → 0 < x → i < g .objects .shape .len x → isPointer v ≡ ltb i (g .objects .shape .ptr x)
+    begins : heldAt t ≡ false → g .objects .tasks task .place ≡ Idle → 0 < x → i < g .objects .shape .len x → isPointer v ≡ ltb i (g .objects .shape .ptr x)
         → slotTaken (t .tasks) (t .limits .p) task (primary (g .pa x)) i ≡ false
-        → Keeps l ws f
+        → Keeps l hy ws f
         (out (withTask t task (entry (taskAt t task .regs) (taskAt t task .pending) (Slot (primary (g .pa x)) i) (storePlace (t .on) (getD ws (g .pa x + i) 0) (atOperand (g .pa) v)))) Accepted)
-    begins pe n d b free =
+    begins held pe n d b free =
         rw (begun-at x i z n d v b) (
           rw a
               (begun-good g task ip pe (Slot (primary x) i) (storePlace (g .objects .on) (g .objects .prim x i) v) (storing x i (operandWord v))
               (begin-store (g .inv) task ip pe x i v z n d b sv (slot-free (g .agree) (g .inv) task x i free (n, z .1, z .0)))
               (begun-jobs (g .objects .on) (g .objects .prim x i) v)
-              (begun-doing (g .objects .tasks task .regs) (g .objects .tasks task .pending) (g .objects .on) (g .objects .prim x i) x i v)),
+              (begun-doing (g .objects .tasks task .regs) (g .objects .tasks task .pending) (g .objects .on) (g .objects .prim x i) x i v) held
+              (begun-stands (g .objects .on) (g .objects .prim x i) v .0) (begun-stands (g .objects .on) (g .objects .prim x i) v .1)
+              (begun-stands (g .objects .on) (g .objects .prim x i) v .2)),
           tt,
         )
 
-    store-slot : g .objects .tasks task .place ≡ Idle → x ≢ 0
-        → Keeps l ws f (storeSlot t ws task (primary (g .pa x)) i (atOperand (g .pa) v) (objectOf ws (t .limits .s) (primary (g .pa x))))
-    store-slot pe nz =
+    store-slot : heldAt t ≡ false → g .objects .tasks task .place ≡ Idle → x ≢ 0
+        → Keeps l hy ws f (storeSlot t ws task (primary (g .pa x)) i (atOperand (g .pa) v) (objectOf ws (t .limits .s) (primary (g .pa x))))
+    store-slot held pe nz =
         rw (object-of (g .inv) (g .agree) x h)
         (either f (leb (g .objects .shape .len x) i) _ _ (λ c. no-keeps g f kept 5 tt refl)
         (λ c.
         either f (sameTest (isPointer (atOperand (g .pa) v)) (ltb i (g .objects .shape .ptr x))) _ _
         (λ b.
         either f (slotTaken (t .tasks) (t .limits .p) task (primary (g .pa x)) i) _ _ (λ e. no-keeps g f kept 8 tt refl)
-        (λ e. begins pe (h .0) (leb-false (g .objects .shape .len x) i c) (sym (at-pointer (g .pa) v) ∙ same-test _ _ b) e))
+        (λ e. begins held pe (h .0) (leb-false (g .objects .shape .len x) i c) (sym (at-pointer (g .pa) v) ∙ same-test _ _ b) e))
         (λ b. no-keeps g f kept 5 tt refl)))
       where
         h : Held (g .kept) (g .objects .shape) x
         h = held-of (g .kept) (g .objects .shape) x nz (z .0) (z .1)
 
-    pub store-keeps : Keeps l ws f (storeFrom t ws task (primary (g .pa x)) i (atOperand (g .pa) v))
+    pub store-keeps : Keeps l hy ws f (storeFrom t ws task (primary (g .pa x)) i (atOperand (g .pa) v))
     unfolding storeFrom
     store-keeps =
         idle-keeps g f kept task ip _
@@ -135,10 +154,10 @@ module _ {l : Limits} {w : Store} {t : Table} {ws : List ℕ} (g : Good l w t ws
         either f (heldAt t) _ _ (λ c. no-keeps g f kept 7 tt refl)
         (λ c.
         rw (pa-zero (g .agree .lay) x (z .0) (z .1))
-        (either f (eqb x 0) _ _ (λ d. no-keeps g f kept 4 tt refl) (λ d. store-slot pe (eqb-false x 0 d)))))
+        (either f (eqb x 0) _ _ (λ d. no-keeps g f kept 4 tt refl) (λ d. store-slot c pe (eqb-false x 0 d)))))
 
   -- ---- the calls
-  pub begin-store-keeps : (task r i v : ℕ) → Keeps l ws (λ x. told w (Call.Store task r i v) x []) (beginStoreOf t ws task r i v)
+  pub begin-store-keeps : (task r i v : ℕ) → Keeps l hy ws (λ x. told w (Call.Store task r i v) x []) (beginStoreOf t ws task r i v)
   unfolding beginStoreOf happenAll
   begin-store-keeps task r i v =
       gate-keeps g f kept task _
@@ -155,7 +174,7 @@ module _ {l : Limits} {w : Store} {t : Table} {ws : List ℕ} (g : Good l w t ws
       kept x = refl
 
   pub begin-store-pointer-keeps : (task r i q : ℕ)
-      → Keeps l ws (λ x. told w (Call.StorePointer task r i q) x []) (beginStorePointerOf t ws task r i q)
+      → Keeps l hy ws (λ x. told w (Call.StorePointer task r i q) x []) (beginStorePointerOf t ws task r i q)
   unfolding beginStorePointerOf happenAll
   begin-store-pointer-keeps task r i q =
       pair-keeps g f kept task r q _

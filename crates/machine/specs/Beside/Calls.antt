@@ -7,6 +7,7 @@ use Rattle.table.specs.declared.Place.{Place}
 use Rattle.table.specs.declared.Table.{Table}
 use Rattle.table.specs.declared.Answer.{Answer}
 use Rattle.table.specs.declared.Outcome.{Outcome}
+use Rattle.machine.specs.History.{History}
 use Rattle.machine.specs.Call.{Call}
 use Rattle.machine.specs.Calls.{call}
 use Rattle.machine.specs.StillStore.{Store, told, loadAnswer, sameAnswer}
@@ -49,11 +50,11 @@ made-none (Call.Get task r root) n x before after = refl
 made-none (Call.Step task) n x before after = absurd n
 made-none Call.Report n x before after = refl
 
-meant-keeps : {l : Limits} {ws : List ℕ} {f : Answer → Store} {y : Answer} {r : Outcome} → Meant l ws f y r → Keeps l ws f r
+meant-keeps : {l : Limits} {hy : History} {ws : List ℕ} {f : Answer → Store} {y : Answer} {r : Outcome} → Meant l hy ws f y r → Keeps l hy ws f r
 meant-keeps k = (k .good, k .fine)
 
-pub call-keeps : {l : Limits} {w : Store} {t : Table} {ws : List ℕ} → Good l w t ws → (c : Call) → NotStep c
-    → Good l (told w c (call c t ws .out .answer) []) (call c t ws .out .table) (call c t ws .words) × Undamaged (call c t ws .out .answer)
+pub call-keeps : {l : Limits} {w : Store} {hy : History} {t : Table} {ws : List ℕ} → Good l w hy t ws → (c : Call) → NotStep c
+    → Good l (told w c (call c t ws .out .answer) []) hy (call c t ws .out .table) (call c t ws .words) × Undamaged (call c t ws .out .answer)
 call-keeps g (Call.New task r len m) n = begin-new-keeps g task r len m
 call-keeps g (Call.Fill task v) n = begin-fill-keeps g task v
 call-keeps g (Call.FillPointer task r) n = begin-fill-pointer-keeps g task r
@@ -69,7 +70,7 @@ call-keeps g (Call.Step task) n = absurd n
 call-keeps g Call.Report n = meant-keeps (report-meant g)
 
 -- ---- the answers
-module _ {l : Limits} {w : Store} {t : Table} {ws : List ℕ} (g : Good l w t ws) where
+module _ {l : Limits} {w : Store} {hy : History} {t : Table} {ws : List ℕ} (g : Good l w hy t ws) where
   pub load-answers : (task to from slot : ℕ) → call (Call.Load task to from slot) t ws .out .answer ≡ loadAnswer w (l .p) task to from slot
   load-answers task to from slot = rw (← (g .limits)) (load-meant g task to from slot .answer)
 

@@ -5,7 +5,6 @@ use mathlib.Core.List.{List, [], map}
 use mathlib.Core.Bool.{Bool, true, false}
 use lib.ListN.{length}
 use Rattle.table.specs.declared.Table.{Table}
-use Rattle.machine.specs.Switch.{switchDue}
 use Rattle.machine.specs.History.{Copy, copy, InCopies, NoCopyTwice, History}
 use Rattle.machine.specs.Objects.Base.{In, sumTo}
 use Rattle.machine.specs.Objects.State.{Shape, Snapshot, State}
@@ -31,8 +30,6 @@ pub record Collecting (K : ℕ → Type 0) (pa : ℕ → ℕ) (o : State) (t : T
       (t .marks .copies) made forgiven
   pub same : h .copies ≡ map (copyAt pa) made
   pub lived : Lived K pa (o .shape) (o .snap) h
-  -- the switch-over is not due: something is grey, or a task is busy
-  pub awake : switchDue t ≡ false
 
 -- a collection that has ended: each slot filled at the flip of each object then live was copied once, and nothing else
 pub record Exact (h : History) : Type 0 where

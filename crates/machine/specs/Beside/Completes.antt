@@ -16,6 +16,7 @@ use Rattle.table.specs.declared.Table.{Table}
 use Rattle.table.specs.declared.Answer.{Answer}
 use Rattle.table.specs.declared.Answer.the-variants.{Accepted, Done, Value, Moved, Wait, Report, No}
 use Rattle.table.specs.declared.Outcome.{Outcome}
+use Rattle.machine.specs.History.{History}
 use Rattle.machine.specs.Basics.{pick}
 use Rattle.machine.specs.Numbers.{refusal}
 use Rattle.machine.specs.Entries.{no}
@@ -23,7 +24,8 @@ use Rattle.machine.specs.Tasks.{holdingOf, idleOf}
 use Rattle.machine.specs.StillStore.{Store, Doing, resting, ownerAt, isResting, ready, refuses}
 use Rattle.machine.specs.Agree.Complete.{ifTwo, isIdle, task-in}
 use Rattle.machine.specs.Beside.Still.{DoingAt, Still}
-use Rattle.machine.specs.Beside.Doing.{Stands, busy}
+use Rattle.machine.specs.Beside.Stands.{Stands}
+use Rattle.machine.specs.Beside.Doing.{busy}
 use Rattle.machine.specs.Beside.Good.{Good, Undamaged}
 
 -- a task is idle in the table exactly if it rests in the store
@@ -51,21 +53,21 @@ idle-rests e d (Placing q ToFillCopy) h = sym (busy e d (Placing q ToFillCopy) t
 idle-rests e d (Placing q (ToPut n x i)) h = sym (busy e d (Placing q (ToPut n x i)) tt h)
 
 -- an outcome after which the store, as told by f, stands beside the table, with this answer
-pub record Meant (l : Limits) (ws : List ℕ) (f : Answer → Store) (y : Answer) (r : Outcome) : Type 1 where
-  pub good : Good l (f (r .answer)) (r .table) ws
+pub record Meant (l : Limits) (hy : History) (ws : List ℕ) (f : Answer → Store) (y : Answer) (r : Outcome) : Type 1 where
+  pub good : Good l (f (r .answer)) hy (r .table) ws
   pub fine : Undamaged (r .answer)
   pub answer : r .answer ≡ y
 
 -- a test that machine and store make alike
-pub choose : {l : Limits} {ws : List ℕ} {f : Answer → Store} (c : Bool) (y z : Answer) (r s : Outcome)
-    → (c ≡ true → Meant l ws f y r) → (c ≡ false → Meant l ws f z s) → Meant l ws f (pick c y z) (pick c r s)
+pub choose : {l : Limits} {hy : History} {ws : List ℕ} {f : Answer → Store} (c : Bool) (y z : Answer) (r s : Outcome)
+    → (c ≡ true → Meant l hy ws f y r) → (c ≡ false → Meant l hy ws f z s) → Meant l hy ws f (pick c y z) (pick c r s)
 choose true y z r s a b = a refl
 choose false y z r s a b = b refl
 
 -- the tests that come first: no such task (2), no such register (3), not idle (6)
-module _ {l : Limits} {w : Store} {t : Table} {ws : List ℕ} (g : Good l w t ws) (f : Answer → Store) (kept : (x : ℕ) → f (No (refusal x)) ≡ w) where
+module _ {l : Limits} {w : Store} {hy : History} {t : Table} {ws : List ℕ} (g : Good l w hy t ws) (f : Answer → Store) (kept : (x : ℕ) → f (No (refusal x)) ≡ w) where
   -- a refusal that leaves the table as it came
-  pub refused-well : (x : ℕ) → Undamaged (No (refusal x)) → (r : Outcome) → r .answer ≡ No (refusal x) → r .table ≡ t → Meant l ws f (refuses x) r
+  pub refused-well : (x : ℕ) → Undamaged (No (refusal x)) → (r : Outcome) → r .answer ≡ No (refusal x) → r .table ≡ t → Meant l hy ws f (refuses x) r
   refused-well x u r a b = record { good = rw (a, b, kept x) g; fine = rw a u; answer = a }
 
   pub rests : (task : ℕ) → task < t .limits .p → isIdle (g .objects) task ≡ isResting (ownerAt w task .doing)
@@ -73,8 +75,8 @@ module _ {l : Limits} {w : Store} {t : Table} {ws : List ℕ} (g : Good l w t ws
       idle-rests (g .objects .tasks task) (ownerAt w task .doing) (g .objects .tasks task .place) (g .still .tasks task (task-in (g .agree) task m) .doing)
 
   pub two : (task a b : ℕ) (y : Answer) (rest : Outcome)
-      → (task < t .limits .p → isIdle (g .objects) task ≡ true → a < 8 → b < 8 → Meant l ws f y rest)
-      → Meant l ws f (ready w (t .limits .p) task a b y) (ifTwo t task a b (isIdle (g .objects) task) rest)
+      → (task < t .limits .p → isIdle (g .objects) task ≡ true → a < 8 → b < 8 → Meant l hy ws f y rest)
+      → Meant l hy ws f (ready w (t .limits .p) task a b y) (ifTwo t task a b (isIdle (g .objects) task) rest)
   two task a b y rest h =
       choose (ltb task (t .limits .p)) _ _ _ _
       (λ c.

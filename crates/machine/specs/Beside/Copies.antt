@@ -21,6 +21,7 @@ use Rattle.table.specs.declared.Deed.the-variants.{Goes}
 use Rattle.table.specs.declared.Answer.the-variants.{Done, Moved}
 use Rattle.table.specs.declared.Task.{Task}
 use Rattle.table.specs.declared.Table.{Table}
+use Rattle.machine.specs.History.{History}
 use Rattle.machine.specs.Basics.{pick}
 use Rattle.machine.specs.Words.{primary, replica, copiedWord}
 use Rattle.machine.specs.Entries.{taskAt, movedTable, marksAt, out, ends}
@@ -46,6 +47,9 @@ use Rattle.machine.specs.Agree.Slots.{copies-agree}
 use Rattle.machine.specs.Agree.Search.{worker-found}
 use Rattle.machine.specs.Beside.Still.{DoingAt, Still}
 use Rattle.machine.specs.Beside.Doing.{still-goes}
+use Rattle.machine.specs.Beside.Stands.{stands-ahead}
+use Rattle.machine.specs.Objects.CountLaws.{counts-goes}
+use Rattle.machine.specs.Beside.Collects.{collects, not-idle, ahead-left, ahead-free}
 use Rattle.machine.specs.Beside.Good.{Good, Comes, comes-moved, comes-wait}
 use Rattle.machine.specs.Beside.Glue.{copied-word, at-ahead, look-placed, below, moved-goes, busy-at}
 use Rattle.machine.specs.Beside.Ending.{ends-comes}
@@ -69,7 +73,7 @@ ahead-doing e d (Pointer p) n x k h = on (eqb (p .0) 0)
     on true = h
     on false = h
 
-module _ {l : Limits} {w : Store} {t : Table} {ws : List ℕ} (g : Good l w t ws) (i : ℕ) (ip : i < t .limits .p) (X : Type 0) (n : ℕ) (x : Primary) (k : ℕ) where
+module _ {l : Limits} {w : Store} {hy : History} {t : Table} {ws : List ℕ} (g : Good l w hy t ws) (i : ℕ) (ip : i < t .limits .p) (X : Type 0) (n : ℕ) (x : Primary) (k : ℕ) where
   colours : g .objects .on ≡ true → Colours (g .kept) (g .objects .shape) (g .objects .snap) (g .objects .hd) (g .objects .prim) (g .objects .rep) (g .objects .has) (g .objects .stack)
       (Late (g .objects .tasks))
   colours on = rw on at (g .inv .mode)
@@ -99,7 +103,7 @@ module _ {l : Limits} {w : Store} {t : Table} {ws : List ℕ} (g : Good l w t ws
 
     goes-on : (v : Operand) → SoundOperand (g .kept) (g .objects .shape) v
         → Inv (g .kept) (t .limits .p) (t .limits .s) (moves (g .objects) i (goes (g .objects .tasks i) (lookAhead v (ToPut n x k) (Put n x k))))
-        → Comes l w i (atPlace (g .pa) (g .ra) (Read n x k)) X
+        → Comes l w hy t ws i (atPlace (g .pa) (g .ra) (Read n x k)) X
         (ends
         (out
         (movedTable t i (t .marks) (taskAt t i .pending)
@@ -115,9 +119,10 @@ module _ {l : Limits} {w : Store} {t : Table} {ws : List ℕ} (g : Good l w t ws
         (moves-agree (g .inv) (g .agree) i ip (goes (g .objects .tasks i) (lookAhead v (ToPut n x k) (Put n x k))) (t .marks .j)
         (rw pe (ap (λ m. t .marks .j + m) (ahead-jobs v n x k))) (omega arith))
         (still-goes (g .still) i (below g i ip) (lookAhead v (ToPut n x k) (Put n x k))
-        (ahead-doing (g .objects .tasks i) (ownerAt w i .doing) v n x k (busy-at g i ip (Read n x k) pe tt)))
+        (ahead-doing (g .objects .tasks i) (ownerAt w i .doing) v n x k (busy-at g i ip (Read n x k) pe tt))) ip (stands-ahead v (ToPut n x k) (Put n x k) (λ c. tt)) (hy .copies) refl
+        (collects (g .collecting live-r) _ _ refl refl (g .collecting live-r .forgiven) (counts-goes (g .inv) live-r (g .collecting live-r .counts) i ip (Read n x k) (lookAhead v (ToPut n x k) (Put n x k)) pe (not-idle (Read n x k) tt) (ahead-left v (ToPut n x k) (Put n x k) (λ c. refl)) (ahead-free v (ToPut n x k) (Put n x k) (λ c y h. h))))
 
-    pub read-comes : Comes l w i (atPlace (g .pa) (g .ra) (Read n x k)) X (settle t i (readOf (t .marks) ws (t .limits .s) n (atPrimary (g .pa) x) k))
+    pub read-comes : Comes l w hy t ws i (atPlace (g .pa) (g .ra) (Read n x k)) X (settle t i (readOf (t .marks) ws (t .limits .s) n (atPrimary (g .pa) x) k))
     unfolding readOf settleOf
     read-comes =
         rw (
@@ -128,7 +133,7 @@ module _ {l : Limits} {w : Store} {t : Table} {ws : List ℕ} (g : Good l w t ws
         (on (ltb k (g .objects .shape .ptr (x .0))) refl)
       where
         on : (b : Bool) → ltb k (g .objects .shape .ptr (x .0)) ≡ b
-            → Comes l w i (atPlace (g .pa) (g .ra) (Read n x k)) X
+            → Comes l w hy t ws i (atPlace (g .pa) (g .ra) (Read n x k)) X
             (settle t i
             (pick b
             (acted
@@ -148,7 +153,7 @@ module _ {l : Limits} {w : Store} {t : Table} {ws : List ℕ} (g : Good l w t ws
 
   -- into the replica
   pub put-comes : (c : Copied) → g .objects .tasks i .place ≡ Put n x k c
-      → Comes l w i (atPlace (g .pa) (g .ra) (Put n x k c)) X (settle t i (putOf (t .marks) ws (t .limits .s) n (atPrimary (g .pa) x) k (atCopied (g .ra) c)))
+      → Comes l w hy t ws i (atPlace (g .pa) (g .ra) (Put n x k c)) X (settle t i (putOf (t .marks) ws (t .limits .s) n (atPrimary (g .pa) x) k (atCopied (g .ra) c)))
   unfolding putOf settleOf happenAll holdingOf
   put-comes c pe =
       let h = at-place (g .inv) i (Put n x k c) pe in
@@ -162,4 +167,5 @@ module _ {l : Limits} {w : Store} {t : Table} {ws : List ℕ} (g : Good l w t ws
       (moved-goes g i ip (t .marks) (Release n x k)) (puts (g .objects) i n x k c (g .inv) ip pe)
       (copies-agree (g .inv) (g .agree) i ip (goes (g .objects .tasks i) (Release n x k)) (rw pe refl) (x .0) (held (h .0) (h .2)) k (copiedWord c) (placed (h .0) (h .2))
       (short (h .0) (h .2)))
-      (still-goes (g .still) i (below g i ip) (Release n x k) (busy-at g i ip (Put n x k c) pe tt)))
+      (still-goes (g .still) i (below g i ip) (Release n x k) (busy-at g i ip (Put n x k c) pe tt)) ip tt (hy .copies) refl
+      (collects (g .collecting (h .0)) _ _ refl refl (g .collecting (h .0) .forgiven) (counts-goes (g .inv) (h .0) (g .collecting (h .0) .counts) i ip (Put n x k c) (Release n x k) pe (not-idle (Put n x k c) tt) refl (λ y h. h))))

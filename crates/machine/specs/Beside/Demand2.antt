@@ -18,6 +18,7 @@ use Rattle.machine.specs.Call.{Call}
 use Rattle.machine.specs.Calls.{then, run}
 use Rattle.machine.specs.StillStore.{Store, emptyStore, loadAnswer, sameAnswer}
 use Rattle.machine.specs.Kinds.{follows, beside}
+use Rattle.machine.specs.History.{noHistory, historyOf}
 use Rattle.machine.specs.Beside.Good.{Good, Undamaged}
 use Rattle.machine.specs.Beside.Start.{fresh-good}
 use Rattle.machine.specs.Beside.Calls.{load-answers, same-answers}
@@ -30,13 +31,13 @@ not-spent : (x : Answer) → Undamaged x → x ≢ No Exhausted
 not-spent x u e = rw e at u
 
 module _ (t : Table) (l : Limits) (ws : List ℕ) (accepted : sizesOk l (length ws) ≡ true) where
-  pub set-up-good : Good l emptyStore (setupOf t l ws .out .table) (setupOf t l ws .words)
+  pub set-up-good : Good l emptyStore noHistory (setupOf t l ws .out .table) (setupOf t l ws .words)
   unfolding setupOf
   set-up-good = rw accepted (fresh-good l (length ws) accepted)
 
   module _ (cs : List Call) (living : Living cs (setupOf t l ws)) where
-    pub good-after : Good l (beside cs (setupOf t l ws) emptyStore) (run cs (setupOf t l ws) .out .table) (run cs (setupOf t l ws) .words)
-    good-after = good-run l cs (setupOf t l ws) emptyStore set-up-good living
+    pub good-after : Good l (beside cs (setupOf t l ws) emptyStore) (historyOf cs (setupOf t l ws) noHistory) (run cs (setupOf t l ws) .out .table) (run cs (setupOf t l ws) .words)
+    good-after = good-run l cs (setupOf t l ws) emptyStore noHistory set-up-good living
 
     pub load-right : (task to from slot : ℕ)
         → then (Call.Load task to from slot) (run cs (setupOf t l ws)) .out .answer ≡ loadAnswer (beside cs (setupOf t l ws) emptyStore) (l .p) task to from slot
@@ -47,16 +48,16 @@ module _ (t : Table) (l : Limits) (ws : List ℕ) (accepted : sizesOk l (length 
     same-right task a b = same-answers good-after task a b
 
     pub undamaged : (c : Call) → then c (run cs (setupOf t l ws)) .out .answer ≢ No Damaged
-    undamaged c = on (proceeds l (beside cs (setupOf t l ws) emptyStore) c (run cs (setupOf t l ws)) good-after)
+    undamaged c = on (proceeds l (beside cs (setupOf t l ws) emptyStore) (historyOf cs (setupOf t l ws) noHistory) c (run cs (setupOf t l ws)) good-after)
       where
-        on : Proceeds l (beside cs (setupOf t l ws) emptyStore) c (run cs (setupOf t l ws)) → then c (run cs (setupOf t l ws)) .out .answer ≢ No Damaged
+        on : Proceeds l (beside cs (setupOf t l ws) emptyStore) (historyOf cs (setupOf t l ws) noHistory) c (run cs (setupOf t l ws)) → then c (run cs (setupOf t l ws)) .out .answer ≢ No Damaged
         on (inl h) = λ e. let q : No Exhausted ≡ No Damaged = sym (h .0) ∙ e in let z : _≡_ {A = ℕ} 0 1 = cc in absurd (omega arith)
         on (inr h) = not-damaged (then c (run cs (setupOf t l ws)) .out .answer) (h .1)
 
     pub spent-for-room : (c : Call) → then c (run cs (setupOf t l ws)) .out .answer ≡ No Exhausted
         → Spends c (run cs (setupOf t l ws) .out .table) (run cs (setupOf t l ws) .words)
-    spent-for-room c e = on (proceeds l (beside cs (setupOf t l ws) emptyStore) c (run cs (setupOf t l ws)) good-after)
+    spent-for-room c e = on (proceeds l (beside cs (setupOf t l ws) emptyStore) (historyOf cs (setupOf t l ws) noHistory) c (run cs (setupOf t l ws)) good-after)
       where
-        on : Proceeds l (beside cs (setupOf t l ws) emptyStore) c (run cs (setupOf t l ws)) → Spends c (run cs (setupOf t l ws) .out .table) (run cs (setupOf t l ws) .words)
+        on : Proceeds l (beside cs (setupOf t l ws) emptyStore) (historyOf cs (setupOf t l ws) noHistory) c (run cs (setupOf t l ws)) → Spends c (run cs (setupOf t l ws) .out .table) (run cs (setupOf t l ws) .words)
         on (inl h) = h .1
         on (inr h) = absurd (not-spent (then c (run cs (setupOf t l ws)) .out .answer) (h .1) e)

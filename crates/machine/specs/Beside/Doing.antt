@@ -20,24 +20,8 @@ use Rattle.machine.specs.Objects.Base.{upd}
 use Rattle.machine.specs.Objects.State.{Shape, OfStore, pendingIs}
 use Rattle.machine.specs.Objects.Ops.{goes, goesWith}
 use Rattle.machine.specs.Beside.Still.{DoingThen, DoingAt, GoesTo, StillTask, Still}
+use Rattle.machine.specs.Beside.Stands.{Stands}
 use Rattle.machine.specs.Beside.StillLaws.{still-entry}
-
--- a task that stands at such a place is doing something
-abbrev pub Stands : Place → Type 0
-Stands Idle = ⊥
-Stands (New r len m) = Unit {0}
-Stands (Asked r len m) = Unit {0}
-Stands (FillWrite v) = Unit {0}
-Stands (FillCopy c) = Unit {0}
-Stands (StoreWrite v) = Unit {0}
-Stands (Meet v) = Unit {0}
-Stands (StoreCopy c) = Unit {0}
-Stands (Take n) = Unit {0}
-Stands (Read n x i) = Unit {0}
-Stands (Put n x i c) = Unit {0}
-Stands (Release n x i) = Unit {0}
-Stands (Looking q th) = Unit {0}
-Stands (Placing q th) = Unit {0}
 
 stores-busy : (s : Storing) (d : Doing) (v : ℕ) → OfStore s (λ x i. d ≡ storing x i v) → isResting d ≡ false
 stores-busy Nowhere d v h = absurd h

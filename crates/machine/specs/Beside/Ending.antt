@@ -16,6 +16,7 @@ use Rattle.table.specs.declared.Place.{Place}
 use Rattle.table.specs.declared.Place.the-variants.{Idle}
 use Rattle.table.specs.declared.Table.{Table}
 use Rattle.table.specs.declared.Answer.{Answer}
+use Rattle.machine.specs.History.{History, withCopy, withCopies}
 use Rattle.machine.specs.Basics.{pick}
 use Rattle.machine.specs.Entries.{entry, taskAt}
 use Rattle.machine.specs.Tasks.{holdingOf}
@@ -29,6 +30,8 @@ use Rattle.machine.specs.Agree.Encode.{atPending, atTask}
 use Rattle.machine.specs.Agree.Enter.{entered, entered-ended, moves-agree}
 use Rattle.machine.specs.Beside.Still.{Still}
 use Rattle.machine.specs.Beside.StillSteps.{Filling, still-ended}
+use Rattle.machine.specs.Objects.Base.{off-on}
+use Rattle.machine.specs.Beside.Collecting.{Collecting}
 use Rattle.machine.specs.Beside.Good.{Good, Undamaged, Comes}
 use Rattle.machine.specs.Beside.Glue.{below, entry-of}
 use Rattle.machine.specs.Beside.Finish.{finishes}
@@ -50,7 +53,7 @@ pub filling : (K : ℕ → Type 0) (sh : Shape) (hd : ℕ → Hd) (on : Bool) (d
 filling K sh hd on Nothing o = tt
 filling K sh hd on (Making x r len f) o = (o .0, o .2, o .3, o .4)
 
-module _ {l : Limits} {w : Store} {t : Table} {ws : List ℕ} (g : Good l w t ws) (i : ℕ) (ip : i < t .limits .p) where
+module _ {l : Limits} {w : Store} {hy : History} {t : Table} {ws : List ℕ} (g : Good l w hy t ws) (i : ℕ) (ip : i < t .limits .p) where
   -- the table of the end, whatever the marks
   pub ended-table : (m : Marks) → endedTable t i m (taskAt t i .pending)
       ≡ entered t m i (atTask (g .pa) (g .ra) (endedEntry (g .objects .tasks i .regs) (g .objects .tasks i .pending)))
@@ -67,14 +70,16 @@ module _ {l : Limits} {w : Store} {t : Table} {ws : List ℕ} (g : Good l w t ws
       (filling (g .kept) (g .objects .shape) (g .objects .hd) (g .objects .on) (g .objects .tasks i .pending) (g .inv .entries i .pending))
 
   pub ends-comes : (before : Place) (X : Type 0) (x : Answer) → Undamaged x → ((after : Place) → stepKinds x before after ≡ Ended ∷ [])
-      → jobsIn (holdingOf (g .objects .tasks i .place)) ≡ 0
+      → jobsIn (holdingOf (g .objects .tasks i .place)) ≡ 0 → withCopy before x (hy .copies) ≡ hy .copies → g .objects .on ≡ true
+      → Collecting (g .kept) (g .pa) (moves (g .objects) i (endedEntry (g .objects .tasks i .regs) (g .objects .tasks i .pending)))
+      (endedTable t i (t .marks) (taskAt t i .pending)) (withCopies hy (hy .copies))
       → Inv (g .kept) (t .limits .p) (t .limits .s) (moves (g .objects) i (endedEntry (g .objects .tasks i .regs) (g .objects .tasks i .pending)))
-      → Comes l w i before X (finishOf t ws i (t .marks) (taskAt t i .pending) x)
+      → Comes l w hy t ws i before X (finishOf t ws i (t .marks) (taskAt t i .pending) x)
   unfolding happenAll
-  ends-comes before X x und kinds none inv =
+  ends-comes before X x und kinds none quiet live col inv =
       finishes g i before X (g .kept) (g .pa) (g .ra) (moves (g .objects) i (endedEntry (g .objects .tasks i .regs) (g .objects .tasks i .pending))) ws (t .marks)
       (taskAt t i .pending) x (withOwner w i (endsOwner (ownerAt w i) (thingAt w (ownerAt w i .pending)))) und (λ after. rw (kinds after) refl) inv
       (rw (ended-table (t .marks))
       (moves-agree (g .inv) (g .agree) i ip (endedEntry (g .objects .tasks i .regs) (g .objects .tasks i .pending)) (t .marks .j)
       (rw (none, ended-jobs (g .objects .tasks i .regs) (g .objects .tasks i .pending)) refl) (omega arith)))
-      (g .home) still-ends
+      (g .home) still-ends (hy .copies) quiet (λ f. col) (λ f. off-on (sym f ∙ live))

@@ -21,6 +21,7 @@ use Rattle.table.specs.declared.Place.the-variants.{FillWrite, FillCopy, Take, 
 use Rattle.table.specs.declared.Answer.the-variants.{Done}
 use Rattle.table.specs.declared.Task.{Task}
 use Rattle.table.specs.declared.Table.{Table}
+use Rattle.machine.specs.History.{History}
 use Rattle.machine.specs.Basics.{pick}
 use Rattle.machine.specs.Words.{primary, replica, operandWord, copiedWord}
 use Rattle.machine.specs.Entries.{taskAt}
@@ -31,7 +32,7 @@ use Rattle.machine.specs.Switch.{endedEntry}
 use Rattle.machine.specs.Step.{settle, settleOf}
 use Rattle.machine.specs.Tasks.{holdingOf}
 use Rattle.machine.specs.StillStore.{Store, Doing, filling, ownerAt, thingAt, withThing, fillsThing, withOwner, endsOwner, happenAll, isResting}
-use Rattle.machine.specs.Objects.Base.{upd, upd-same, slot, slot-same, slot-other}
+use Rattle.machine.specs.Objects.Base.{off-on, upd, upd-same, slot, slot-same, slot-other}
 use Rattle.machine.specs.Objects.State.{Hd, Shape, State, isRenamed, IsPlaced, pendingIs, OfPending, jobsIn}
 use Rattle.machine.specs.Objects.Inv.{Inv, Sound, PendingOk, SoundOperand, SoundCopied, HalfFilled}
 use Rattle.machine.specs.Objects.Ops.{goes, goesWith, halfFills, fillsCopy, fillsOff, filledOne, wroteOne}
@@ -46,6 +47,10 @@ use Rattle.machine.specs.Beside.Still.{DoingAt, GoesTo, StillTask, Still
 use Rattle.machine.specs.Beside.StillLaws.{still-entry, still-half}
 use Rattle.machine.specs.Beside.StillSteps.{still-filled, still-ended}
 use Rattle.machine.specs.Beside.Doing.{still-goes}
+use Rattle.machine.specs.Beside.Stands.{stands-ahead}
+use Rattle.machine.specs.Objects.CountFills.{counts-half, counts-fills}
+use Rattle.machine.specs.Beside.Collects.{ahead-left, ahead-free}
+use Rattle.machine.specs.Beside.Lives.{lived-shape}
 use Rattle.machine.specs.Beside.Good.{Good, Comes, comes-moved}
 use Rattle.machine.specs.Beside.Glue.{operand-word, copied-word, at-ahead, look-placed, below, entry-of, moved-goes, busy-at}
 use Rattle.machine.specs.Beside.Finish.{finishes}
@@ -79,7 +84,7 @@ copy-doing e d c pl pe h = rw pe at h
 goes-to : {x : Primary} {r len f q : ℕ} (d : Pending) → d ≡ Making x r len f → GoesTo d q → q ≡ r
 goes-to d e h = rw e at h
 
-module _ {l : Limits} {w : Store} {t : Table} {ws : List ℕ} (g : Good l w t ws) (i : ℕ) (ip : i < t .limits .p) (X : Type 0) (x : Primary) (r len f : ℕ)
+module _ {l : Limits} {w : Store} {hy : History} {t : Table} {ws : List ℕ} (g : Good l w hy t ws) (i : ℕ) (ip : i < t .limits .p) (X : Type 0) (x : Primary) (r len f : ℕ)
     (me : g .objects .tasks i .pending ≡ Making x r len f) where
   made : PendingOk (g .kept) (g .objects .shape) (g .objects .hd) (g .objects .on) (Making x r len f)
   made = rw me at (g .inv .entries i .pending)
@@ -107,7 +112,7 @@ module _ {l : Limits} {w : Store} {t : Table} {ws : List ℕ} (g : Good l w t ws
 
     -- collecting: the primary's slot
     pub fill-write-comes : g .objects .on ≡ true
-        → Comes l w i (atPlace (g .pa) (g .ra) (FillWrite v)) X
+        → Comes l w hy t ws i (atPlace (g .pa) (g .ra) (FillWrite v)) X
         (settle t i (fillWriteOf true (t .marks) ws (t .limits .s) (Making (atPrimary (g .pa) x) r len f) (atOperand (g .pa) v)))
     unfolding fillWriteOf settleOf happenAll holdingOf
     fill-write-comes on =
@@ -125,7 +130,16 @@ module _ {l : Limits} {w : Store} {t : Table} {ws : List ℕ} (g : Good l w t ws
         (half-agree (g .inv) (g .agree) i ip (goes (g .objects .tasks i) (lookAhead v ToFillCopy FillCopy)) (rw pe (ap (λ m. t .marks .j + m) (ahead-jobs v))) (x .0) held
         (operandWord v) (place .0 .0))
         (still-goes (still-half (g .still) (x .0) (operandWord v)) i (below g i ip) (lookAhead v ToFillCopy FillCopy)
-        (ahead-doing (g .objects .tasks i) (ownerAt w i .doing) v doing)))
+        (ahead-doing (g .objects .tasks i) (ownerAt w i .doing) v doing)) ip (stands-ahead v ToFillCopy FillCopy (λ c. tt)) (hy .copies) refl
+        (record {
+          made = g .collecting on .made;
+          forgiven = g .collecting on .forgiven;
+          counts =
+              counts-half (g .inv) on (g .collecting on .counts) i ip v x (lookAhead v ToFillCopy FillCopy) pe (ahead-left v ToFillCopy FillCopy (λ c. refl))
+              (ahead-free v ToFillCopy FillCopy (λ c y h. h));
+          same = g .collecting on .same;
+          lived = lived-shape (wroteOne (g .objects .shape) (x .0)) refl refl (g .collecting on .lived) (hy .copies);
+        }))
 
     -- the store after the slot is filled
     filled-store : Store
@@ -133,7 +147,7 @@ module _ {l : Limits} {w : Store} {t : Table} {ws : List ℕ} (g : Good l w t ws
 
     -- off: the slot counts, and the Fill ends
     pub fill-off-comes : g .objects .on ≡ false
-        → Comes l w i (atPlace (g .pa) (g .ra) (FillWrite v)) X
+        → Comes l w hy t ws i (atPlace (g .pa) (g .ra) (FillWrite v)) X
         (settle t i (fillWriteOf false (t .marks) ws (t .limits .s) (Making (atPrimary (g .pa) x) r len f) (atOperand (g .pa) v)))
     unfolding fillWriteOf settleOf happenAll holdingOf filled-store
     fill-off-comes off =
@@ -150,7 +164,7 @@ module _ {l : Limits} {w : Store} {t : Table} {ws : List ℕ} (g : Good l w t ws
         (rw (entered-ended (g .pa) (g .ra) (g .objects) t i (t .marks) (Making x r len (f + 1)) (entry-of g i ip), at-fill)
         (fills-off-agree (g .inv) (g .agree) i ip (endedEntry (g .objects .tasks i .regs) (Making x r len (g .objects .shape .fill (x .0) + 1)))
         (rw (pe, ended-jobs (g .objects .tasks i .regs) (Making x r len (g .objects .shape .fill (x .0) + 1))) refl) (x .0) held (operandWord v) (place .0 .0)))
-        (g .home) still)
+        (g .home) still (hy .copies) refl (λ f. off-on (sym off ∙ f)) (g .collected))
       where
         q : StillTask (g .objects .tasks i) (ownerAt w i)
         q = g .still .tasks i (below g i ip)
@@ -169,7 +183,7 @@ module _ {l : Limits} {w : Store} {t : Table} {ws : List ℕ} (g : Good l w t ws
 
   -- collecting: the replica's slot, and the slot counts
   pub fill-copy-comes : (c : Copied) → g .objects .tasks i .place ≡ FillCopy c
-      → Comes l w i (atPlace (g .pa) (g .ra) (FillCopy c)) X
+      → Comes l w hy t ws i (atPlace (g .pa) (g .ra) (FillCopy c)) X
       (settle t i (fillCopyOf (t .marks) ws (t .limits .s) (t .limits .k) (Making (atPrimary (g .pa) x) r len f) (atCopied (g .ra) c)))
   unfolding fillCopyOf settleOf happenAll holdingOf
   fill-copy-comes c pe =
@@ -195,7 +209,14 @@ module _ {l : Limits} {w : Store} {t : Table} {ws : List ℕ} (g : Good l w t ws
         pending = pending-is;
         goesTo = goes-to (g .objects .tasks i .pending) me (q .goesTo);
         doing = busy-at g i ip (FillCopy c) pe tt;
-      }))))
+      }))) ip tt (hy .copies) refl
+      (record {
+        made = g .collecting (place .0) .made;
+        forgiven = g .collecting (place .0) .forgiven;
+        counts = counts-fills (g .inv) (place .0) (g .collecting (place .0) .counts) i ip c x r len f pe me;
+        same = g .collecting (place .0) .same;
+        lived = lived-shape (filledOne (g .objects .shape) (x .0)) refl refl (g .collecting (place .0) .lived) (hy .copies);
+      }))
     where
       q : StillTask (g .objects .tasks i) (ownerAt w i)
       q = g .still .tasks i (below g i ip)

@@ -5,6 +5,7 @@ use mathlib.Core.Logic.{_⊎_, inl, inr}
 use mathlib.Core.List.{List, [], _∷_}
 use mathlib.Core.Bool.{Bool, true, false, not}
 use native.Mathlib.Omega.{arith}
+use lib.ListN.{length}
 use Rattle.table.specs.declared.Limits.{Limits}
 use Rattle.table.specs.declared.Marks.{Marks}
 use Rattle.table.specs.declared.Pending.{Pending}
@@ -31,6 +32,10 @@ use Rattle.machine.specs.Agree.Search.{not-grey, all-idle}
 use Rattle.machine.specs.Agree.SwitchWords.{switch-is, switch-agree, switch-home}
 use Rattle.machine.specs.Beside.Still.{Still}
 use Rattle.machine.specs.Beside.StillLaws.{still-shape}
+use Rattle.machine.specs.History.{Copy, History, withCopy, withCopies}
+use Rattle.machine.specs.Beside.Collecting.{Collecting, Exact}
+use Rattle.machine.specs.Beside.Histories.{as-it-was, off-stays, history-is}
+use Rattle.machine.specs.Beside.Exactly.{counted, exact-of}
 use Rattle.machine.specs.Beside.Good.{Good, Undamaged, Comes}
 
 -- what a due switch-over has seen
@@ -47,24 +52,43 @@ due u e = on (u .on) refl (greyOf (u .marks) (endOf (u .upper) (u .limits .h)) (
     on false a true b e = off-on e
     on false a false b e = off-on e
 
+pub known-of : {K : ℕ → Type 0} {p s : ℕ} {o : State} → Inv K p s o → o .on ≡ true → o .snap .n ≤ o .shape .n
+known-of inv live = let c = rw live at (inv .mode) in c .known
+
 pub still-switches : (o : State) {w : Store} → Still (o .shape) (o .prim) (o .tasks) (o .roots) w
     → Still (switches o .shape) (switches o .prim) (switches o .tasks) (switches o .roots) w
 still-switches o k = still-shape (switches o .shape) (o .prim) k refl (λ x z m q. record { len = q .len; ptr = q .ptr; fill = q .fill; slots = q .slots })
 
-module _ {l : Limits} {w : Store} {t : Table} {ws : List ℕ} (g : Good l w t ws) (i : ℕ) (before : Place) (X : Type 0) where
-  -- the action left the objects o, the words ws′ and the marks m; the store is w′
+module _ {l : Limits} {w : Store} {hy : History} {t : Table} {ws : List ℕ} (g : Good l w hy t ws) (i : ℕ) (before : Place) (X : Type 0) where
+  -- the action left the objects o, the words ws′ and the marks m; the store is w′, and cs are the copies since the flip
   pub finishes : (K : ℕ → Type 0) (pa ra : ℕ → ℕ) (o : State) (ws′ : List ℕ) (m : Marks) (pending : Pending) (x : Answer) (w′ : Store) → Undamaged x
       → ((after : Place) → happenAll w i (stepKinds x before after) ≡ w′) → Inv K (t .limits .p) (t .limits .s) o → Agree K pa ra o (endedTable t i m pending) ws′
-      → (o .on ≡ false → Home K pa (o .shape) (bottom t) (m .a)) → Still (o .shape) (o .prim) (o .tasks) (o .roots) w′ → Comes l w i before X (finishOf t ws′ i m pending x)
+      → (o .on ≡ false → Home K pa (o .shape) (bottom t) (m .a)) → Still (o .shape) (o .prim) (o .tasks) (o .roots) w′
+      → (cs : List Copy) → withCopy before x (hy .copies) ≡ cs → (o .on ≡ true → Collecting K pa o (endedTable t i m pending) (withCopies hy cs))
+      → (o .on ≡ false → Exact (withCopies hy cs) × (m .copies ≡ length cs)) → Comes l w hy t ws i before X (finishOf t ws′ i m pending x)
   unfolding finishOf
-  finishes K pa ra o ws′ m pending x w′ und kinds inv agree home still = on (switchDue (endedTable t i m pending)) refl
+  finishes K pa ra o ws′ m pending x w′ und kinds inv agree home still cs quiet col off = on (switchDue (endedTable t i m pending)) refl
     where
       on : (b : Bool) → switchDue (endedTable t i m pending) ≡ b
-          → Comes l w i before X (ends (pick b (switchOf t (endedTable t i m pending) ws′ x) (out (endedTable t i m pending) x)) ws′)
+          → Comes l w hy t ws i before X (ends (pick b (switchOf t (endedTable t i m pending) ws′ x) (out (endedTable t i m pending) x)) ws′)
       on false e =
           inr (
-            rw (kinds (taskAt (endedTable t i m pending) i .place))
-                (record { kept = K; pa = pa; ra = ra; objects = o; limits = g .limits; long = g .long; inv = inv; agree = agree; home = home; still = still }),
+            rw (history-is t ws before (ends (out (endedTable t i m pending) x) ws′) hy cs (as-it-was (t .on)) quiet, kinds (taskAt (endedTable t i m pending) i .place))
+                (record {
+                  kept = K;
+                  pa = pa;
+                  ra = ra;
+                  objects = o;
+                  limits = g .limits;
+                  long = g .long;
+                  inv = inv;
+                  agree = agree;
+                  home = home;
+                  still = still;
+                  collecting = col;
+                  awake = λ f. e;
+                  collected = off;
+                }),
             und,
           )
       on true e =
@@ -75,7 +99,10 @@ module _ {l : Limits} {w : Store} {t : Table} {ws : List ℕ} (g : Good l w t ws
           let done = final inv live (h .0) (h .1) (h .2) in
           rw (switch-is inv agree live idle done (h .0) t x)
           (inr (
-            rw (kinds (taskAt (switched (endedTable t i m pending) ws′) i .place))
+            rw (
+              history-is t ws before (ends (out (switched (endedTable t i m pending) ws′) x) ws′) hy cs (off-stays (t .on) false refl) quiet,
+              kinds (taskAt (switched (endedTable t i m pending) ws′) i .place),
+            )
                 (record {
                   kept = K;
                   pa = ra;
@@ -87,6 +114,9 @@ module _ {l : Limits} {w : Store} {t : Table} {ws : List ℕ} (g : Good l w t ws
                   agree = switch-agree inv agree live idle done (h .0);
                   home = λ f. switch-home inv agree live idle done (h .0);
                   still = still-switches o still;
+                  collecting = λ f. off-on f;
+                  awake = λ f. off-on f;
+                  collected = λ f. (exact-of agree (col live) (known-of inv live) done, counted agree (col live) (known-of inv live));
                 }),
             und,
           ))

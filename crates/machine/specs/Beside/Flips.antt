@@ -21,6 +21,7 @@ use Rattle.table.specs.declared.Found.the-variants.{At, Nobody}
 use Rattle.table.specs.declared.Answer.the-variants.{Done, Moved, Wait, No}
 use Rattle.table.specs.declared.Task.{Task}
 use Rattle.table.specs.declared.Table.{Table}
+use Rattle.machine.specs.History.{History, withCopy, isFlip}
 use Rattle.machine.specs.Basics.{pick}
 use Rattle.machine.specs.Numbers.{refusal}
 use Rattle.machine.specs.Words.{descriptor, roomFor, laid}
@@ -29,7 +30,7 @@ use Rattle.machine.specs.Begin.{newOk}
 use Rattle.machine.specs.Switch.{finishOf}
 use Rattle.machine.specs.Flip.{passesOf, unasked, unaskedEntry, flipped, flipEnd, flipOf}
 use Rattle.machine.specs.New.{claimed, made, askOr, newOffOf}
-use Rattle.machine.specs.Tasks.{holdingOf, seekOf}
+use Rattle.machine.specs.Tasks.{holdingOf, idleOf, seekOf}
 use Rattle.machine.specs.StillStore.{Store, Kind, Made, Ended, Doing, making, ownerAt, happenAll}
 use Rattle.machine.specs.Kinds.{doneKinds, movedKinds, stepKinds}
 use Rattle.machine.specs.Objects.Base.{off-on, upd}
@@ -44,9 +45,11 @@ use Rattle.machine.specs.Agree.Encode.{atPlace, atTask}
 use Rattle.machine.specs.Agree.Agree.{Agree, bottom, end}
 use Rattle.machine.specs.Agree.Enter.{entered-place, moves-agree}
 use Rattle.machine.specs.Agree.Search.{no-blocker}
-use Rattle.machine.specs.Agree.FlipWords.{FlipMade, flip-words, flip-agree}
+use Rattle.machine.specs.Agree.FlipWords.{FlipMade, flip-words, flip-agree, made-counts}
+use Rattle.machine.specs.Beside.LivedAt.{flip-made-lived}
 use Rattle.machine.specs.Beside.Still.{DoingThen, DoingAt, StillTask, Still}
 use Rattle.machine.specs.Beside.Doing.{still-goes}
+use Rattle.machine.specs.Beside.Histories.{off-stays, no-copy, history-is, flip-history, busy-awake}
 use Rattle.machine.specs.Beside.Good.{Good, Comes}
 use Rattle.machine.specs.Beside.Glue.{below, entry-of}
 use Rattle.machine.specs.Beside.News.{new-ok, new-jobs, claims-off}
@@ -91,18 +94,25 @@ stopped : (t : Table) (ws : List ℕ) (x : Pass) → flipEnd t x .answer ≡ No 
 stopped t ws (On m) e = let z : _≡_ {A = ℕ} 0 1 = cc in absurd (omega arith)
 stopped t ws (Stopped y) e = let z : y ≡ Exhausted = cc in ap Stopped z
 
+new-busy : (pl : Place) (r len m : ℕ) → pl ≡ New r len m → idleOf (holdingOf pl) ≡ false
+unfolding holdingOf
+new-busy pl r len m e = rw e refl
+
 -- a place of a New, in the table
 abbrev pub Newly : Place → ℕ → ℕ → ℕ → Type 0
 Newly pl r len m = (pl ≡ New r len m) ⊎ (pl ≡ Asked r len m)
 
-module _ {l : Limits} {w : Store} {t : Table} {ws : List ℕ} (g : Good l w t ws) (i : ℕ) (ip : i < t .limits .p) (r len m : ℕ)
+module _ {l : Limits} {w : Store} {hy : History} {t : Table} {ws : List ℕ} (g : Good l w hy t ws) (i : ℕ) (ip : i < t .limits .p) (r len m : ℕ)
     (pe : Newly (g .objects .tasks i .place) r len m) (off : g .objects .on ≡ false) where
   -- another task stands in the way: the asking is recorded
-  asks-comes : (X : Type 0) (before : Place) (q : ℕ) → Comes l w i before X (ends (out (withPlace t i (Asked r len m)) (Wait q)) ws)
+  asks-comes : (X : Type 0) (before : Place) (q : ℕ) → Comes l w hy t ws i before X (ends (out (withPlace t i (Asked r len m)) (Wait q)) ws)
   unfolding happenAll holdingOf
   asks-comes X before q =
       inr (
-        rw (entered-place (g .pa) (g .ra) (g .objects) t i (Asked r len m) (entry-of g i ip))
+        rw (
+          history-is t ws before (ends (out (withPlace t i (Asked r len m)) (Wait q)) ws) hy (hy .copies) same-on (no-copy before (Wait q) (hy .copies) refl),
+          entered-place (g .pa) (g .ra) (g .objects) t i (Asked r len m) (entry-of g i ip),
+        )
             (record {
               kept = g .kept;
               pa = g .pa;
@@ -115,11 +125,17 @@ module _ {l : Limits} {w : Store} {t : Table} {ws : List ℕ} (g : Good l w t ws
                   moves-agree (g .inv) (g .agree) i ip (goes (g .objects .tasks i) (Asked r len m)) (t .marks .j)
                   (rw (new-jobs (g .objects .tasks i .place) r len m pe) refl) (omega arith);
               home = g .home;
+              collecting = λ f. off-on (sym off ∙ f);
+              awake = λ f. off-on (sym off ∙ f);
+              collected = g .collected;
               still = still-goes (g .still) i (below g i ip) (Asked r len m) (doing pe);
             }),
         tt,
       )
     where
+      same-on : isFlip (t .on) (withPlace t i (Asked r len m) .on) ≡ false
+      same-on = off-stays (t .on) (withPlace t i (Asked r len m) .on) (ap (λ (u : Table). u .on) (entered-place (g .pa) (g .ra) (g .objects) t i (Asked r len m) (entry-of g i ip)) ∙ g .agree .on ∙ off)
+
       doing : Newly (g .objects .tasks i .place) r len m → ownerAt w i .doing ≡ making r len m
       doing (inl e) = rw e at (g .still .tasks i (below g i ip) .doing)
       doing (inr e) = rw e at (g .still .tasks i (below g i ip) .doing)
@@ -154,11 +170,11 @@ module _ {l : Limits} {w : Store} {t : Table} {ws : List ℕ} (g : Good l w t ws
 
     -- the flip
     flip-comes : (X : Type 0) (before : Place) → ((after : Place) → after ≡ New r len m → movedKinds before after ≡ []) → (passesOf t ws .pass ≡ Stopped (refusal 10) → X)
-        → Comes l w i before X (flipOf t ws)
+        → Comes l w hy t ws i before X (flipOf t ws)
     unfolding happenAll
     flip-comes X before kinds f = on (flip-words (g .inv) (g .agree) off (g .home off))
       where
-        on : (flipOf t ws ≡ ends (refused t (refusal 10)) (passesOf t ws .words)) ⊎ FlipMade (g .kept) (g .pa) (g .objects) t ws → Comes l w i before X (flipOf t ws)
+        on : (flipOf t ws ≡ ends (refused t (refusal 10)) (passesOf t ws .words)) ⊎ FlipMade (g .kept) (g .pa) (g .objects) t ws → Comes l w hy t ws i before X (flipOf t ws)
         on (inl e) = rw e (inl (refl, f (stopped t ws (passesOf t ws .pass) (answered t ws e))))
         on (inr h) =
             let a = flip-agree h (Left (g .kept) (g .objects) (h .visited)) (λ x q. q .0) in
@@ -166,7 +182,7 @@ module _ {l : Limits} {w : Store} {t : Table} {ws : List ℕ} (g : Good l w t ws
             ap (λ (e : Task). e .place) (a .1 .tasks i (below g i ip)) ∙ ap (λ (pl : Place). atPlace (g .pa) (h .ra) pl) (unasked-at (g .objects .tasks i) r len m pe) in
             rw (h .flip)
             (inr (
-              rw (kinds (taskAt (flipped t (h .marks)) i .place) q)
+              rw (flip-history t ws before (ends (out (flipped t (h .marks)) Moved) (h .words)) hy (g .agree .on ∙ off) refl, kinds (taskAt (flipped t (h .marks)) i .place) q)
                   (record {
                     kept = Left (g .kept) (g .objects) (h .visited);
                     pa = g .pa;
@@ -177,6 +193,16 @@ module _ {l : Limits} {w : Store} {t : Table} {ws : List ℕ} (g : Good l w t ws
                     inv = flip-inv (g .inv) off resting (h .mid) (h .only) (h .all);
                     agree = a .1;
                     home = λ f. off-on (sym f);
+                    collecting = λ f. record {
+                      made = [];
+                      forgiven = λ u. 0;
+                      counts = made-counts (g .inv) off resting h;
+                      same = refl;
+                      lived = flip-made-lived (g .inv) (g .agree) off resting h;
+                    };
+                    awake = λ f.
+                        busy-awake (flipped t (h .marks)) i ip (omega (arith, a .1 .eight, g .agree .sized .limited .p-high)) (new-busy (taskAt (flipped t (h .marks)) i .place) r len m q);
+                    collected = λ f. off-on (sym f);
                     still = still-flips h;
                   }),
               tt,
@@ -184,9 +210,10 @@ module _ {l : Limits} {w : Store} {t : Table} {ws : List ℕ} (g : Good l w t ws
 
   -- the step of a New while off
   pub new-off-comes : (X : Type 0) (before : Place) → doneKinds before ≡ Made ∷ Ended ∷ [] → ((after : Place) → after ≡ New r len m → movedKinds before after ≡ [])
-      → (passesOf t ws .pass ≡ Stopped (refusal 10) → X) → Comes l w i before X (newOffOf t ws i r len m)
+      → (passesOf t ws .pass ≡ Stopped (refusal 10) → X) → withCopy before Done (hy .copies) ≡ hy .copies
+      → Comes l w hy t ws i before X (newOffOf t ws i r len m)
   unfolding newOffOf roomFor
-  new-off-comes X before dones kinds f =
+  new-off-comes X before dones kinds f quiet =
       let h = asked-ok pe in
       rw (new-ok (t .limits .s) r len m (h .2) (h .3) (h .4)) (on (leb (len + 2) (end t - t .marks .a)) refl)
     where
@@ -194,13 +221,13 @@ module _ {l : Limits} {w : Store} {t : Table} {ws : List ℕ} (g : Good l w t ws
       asked-ok (inl e) = at-place (g .inv) i (New r len m) e
       asked-ok (inr e) = at-place (g .inv) i (Asked r len m) e .1
 
-      ask : (x : Found) → seekOf (t .tasks) (t .limits .p) (Blocker i) ≡ x → Comes l w i before X (askOr t ws i (Asked r len m) x)
+      ask : (x : Found) → seekOf (t .tasks) (t .limits .p) (Blocker i) ≡ x → Comes l w hy t ws i before X (askOr t ws i (Asked r len m) x)
       ask (At q) e = asks-comes X before q
       ask Nobody e = flip-comes e X before kinds f
 
       on : (b : Bool) → leb (len + 2) (end t - t .marks .a) ≡ b
-          → Comes l w i before X
+          → Comes l w hy t ws i before X
           (pick b (finishOf t (laid ws (t .marks .a) (descriptor len m) 0) i (claimed (t .marks) (len + 2)) (made (t .marks) r len) Done)
           (askOr t ws i (Asked r len m) (seekOf (t .tasks) (t .limits .p) (Blocker i))))
-      on true e = claims-off g i ip r len m X before (λ after. dones) pe off (leb-true (len + 2) (end t - t .marks .a) e)
+      on true e = claims-off g i ip r len m X before (λ after. dones) quiet pe off (leb-true (len + 2) (end t - t .marks .a) e)
       on false e = ask (seekOf (t .tasks) (t .limits .p) (Blocker i)) refl

@@ -19,6 +19,7 @@ use Rattle.table.specs.declared.Place.{Place}
 use Rattle.table.specs.declared.Place.the-variants.{Looking}
 use Rattle.table.specs.declared.Task.{Task}
 use Rattle.table.specs.declared.Table.{Table}
+use Rattle.machine.specs.History.{History}
 use Rattle.machine.specs.Basics.{pick}
 use Rattle.table.specs.declared.Look.the-variants.{Forwarded}
 use Rattle.machine.specs.Words.{primary, replica, operandWord, copiedWord, lookOf}
@@ -35,7 +36,8 @@ use Rattle.machine.specs.Agree.Names.{pa-zero}
 use Rattle.machine.specs.Agree.Read.{lookIs, look-of}
 use Rattle.machine.specs.Agree.Enter.{entered}
 use Rattle.machine.specs.Agree.Complete.{task-in}
-use Rattle.machine.specs.Beside.Doing.{Stands, busy}
+use Rattle.machine.specs.Beside.Stands.{Stands}
+use Rattle.machine.specs.Beside.Doing.{busy}
 use Rattle.machine.specs.Beside.Good.{Good}
 
 -- the word of a value for slot j of an object with m pointer slots
@@ -80,7 +82,7 @@ look-placed {ra = ra} {o = o} v k x h d = look-of v k x h ∙ on (o .hd x) d
     on (locked i u) d = refl
 
 -- the entry of a task, and the table when it goes on
-module _ {l : Limits} {w : Store} {t : Table} {ws : List ℕ} (g : Good l w t ws) (i : ℕ) (ip : i < t .limits .p) where
+module _ {l : Limits} {w : Store} {hy : History} {t : Table} {ws : List ℕ} (g : Good l w hy t ws) (i : ℕ) (ip : i < t .limits .p) where
   pub below : i < 8
   below = task-in (g .agree) i ip
 

@@ -12,6 +12,7 @@ use Rattle.table.specs.declared.Answer.{Answer}
 use Rattle.table.specs.declared.Answer.the-variants.{Value}
 use Rattle.machine.specs.Entries.{no}
 use Rattle.machine.specs.Complete.{loadOf}
+use Rattle.machine.specs.History.{History}
 use Rattle.machine.specs.Basics.{pick}
 use Rattle.machine.specs.Call.{Call}
 use Rattle.machine.specs.StillStore.{Store, thingAt, happenAll, told, refuses, slotAnswer, loadAnswer}
@@ -24,12 +25,12 @@ use Rattle.machine.specs.Beside.Good.{Good}
 use Rattle.machine.specs.Beside.Completes.{Meant, choose, refused-well, two}
 use Rattle.machine.specs.Beside.Registers.{idle-at, register-good, sound-register, held-is}
 
-module _ {l : Limits} {w : Store} {t : Table} {ws : List ℕ} (g : Good l w t ws) (task to from slot : ℕ) where
+module _ {l : Limits} {w : Store} {hy : History} {t : Table} {ws : List ℕ} (g : Good l w hy t ws) (task to from slot : ℕ) where
   abbrev tells : Answer → Store
   tells x = told w (Call.Load task to from slot) x []
 
   loaded : task < t .limits .p → g .objects .tasks task .place ≡ Idle → (x : ℕ) → root (g .objects .tasks task .regs) from ≡ x
-      → Meant l ws tells (pick (eqb x 0) (refuses 4) (slotAnswer (thingAt w x) slot)) (loadIs t (g .pa) (g .objects) task to x slot)
+      → Meant l hy ws tells (pick (eqb x 0) (refuses 4) (slotAnswer (thingAt w x) slot)) (loadIs t (g .pa) (g .objects) task to x slot)
   unfolding happenAll
   loaded ip pe x re =
       choose (eqb x 0) _ _ _ _ (λ c. refused-well g tells (λ x. refl) 4 tt (no t 4) refl refl)
@@ -53,7 +54,7 @@ module _ {l : Limits} {w : Store} {t : Table} {ws : List ℕ} (g : Good l w t ws
       sound : Sound (g .kept) (g .objects .shape) x
       sound = rw re at (sound-register g task from)
 
-  pub load-meant : Meant l ws (λ x. told w (Call.Load task to from slot) x []) (loadAnswer w (t .limits .p) task to from slot) (loadOf t ws task to from slot)
+  pub load-meant : Meant l hy ws (λ x. told w (Call.Load task to from slot) x []) (loadAnswer w (t .limits .p) task to from slot) (loadOf t ws task to from slot)
   unfolding happenAll loadAnswer
   load-meant =
       rw (load-of (g .inv) (g .agree) (g .long) task to from slot)

@@ -17,6 +17,7 @@ use Rattle.table.specs.declared.Table.{Table}
 use Rattle.table.specs.declared.Sought.the-variants.{Claimer}
 use Rattle.table.specs.declared.Deed.the-variants.{Goes, Fails}
 use Rattle.table.specs.declared.Answer.the-variants.{Moved}
+use Rattle.machine.specs.History.{History}
 use Rattle.machine.specs.Basics.{pick}
 use Rattle.machine.specs.Numbers.{refusal}
 use Rattle.machine.specs.Words.{primary, replica, roomOf, ifForwarded}
@@ -43,6 +44,10 @@ use Rattle.machine.specs.Agree.Heads.{claim-agree}
 use Rattle.machine.specs.Agree.Search.{claimer-found}
 use Rattle.machine.specs.Beside.Still.{DoingThen, DoingAt, Still}
 use Rattle.machine.specs.Beside.Doing.{doing-on, doing-claims, still-goes}
+use Rattle.machine.specs.Beside.Stands.{stands-on}
+use Rattle.machine.specs.Objects.CountLaws.{counts-goes}
+use Rattle.machine.specs.Objects.CountHeads.{counts-claims, counts-places}
+use Rattle.machine.specs.Beside.Collects.{collects, not-idle, on-left, on-free}
 use Rattle.machine.specs.Beside.Good.{Good, Comes, comes-moved, comes-wait}
 use Rattle.machine.specs.Beside.Glue.{at-on, look-placed, below, moved-goes}
 
@@ -67,7 +72,7 @@ claim-jobs q ToStoreCopy = refl
 claim-jobs q ToFillCopy = refl
 claim-jobs q (ToPut n y i) = refl
 
-module _ {l : Limits} {w : Store} {t : Table} {ws : List ℕ} (g : Good l w t ws) (i : ℕ) (ip : i < t .limits .p) (q : Primary) (th : Then) (X : Type 0) where
+module _ {l : Limits} {w : Store} {hy : History} {t : Table} {ws : List ℕ} (g : Good l w hy t ws) (i : ℕ) (ip : i < t .limits .p) (q : Primary) (th : Then) (X : Type 0) where
   module _ (pe : g .objects .tasks i .place ≡ Looking q th) where
     place : (g .objects .on ≡ true) × (0 < q .0) × Sound (g .kept) (g .objects .shape) (q .0)
     place = let h = rw pe at (g .inv .places i) in (h .0, h .1, h .2)
@@ -80,7 +85,7 @@ module _ {l : Limits} {w : Store} {t : Table} {ws : List ℕ} (g : Good l w t ws
 
     -- it has a replica
     goes-on : IsPlaced (g .objects .hd (q .0))
-        → Comes l w i (atPlace (g .pa) (g .ra) (Looking q th)) X
+        → Comes l w hy t ws i (atPlace (g .pa) (g .ra) (Looking q th)) X
         (ends (out (movedTable t i (t .marks) (taskAt t i .pending) (goOn (atThen (g .pa) th) (replica (g .ra (q .0))))) Moved) ws)
     unfolding happenAll
     goes-on d =
@@ -89,11 +94,12 @@ module _ {l : Limits} {w : Store} {t : Table} {ws : List ℕ} (g : Good l w t ws
         (rw (at-on (g .pa) (g .ra) th (q .0)) (moved-goes g i ip (t .marks) (goOn th (replica (q .0))))) (look-goes (g .objects) i q th (g .inv) ip pe d)
         (moves-agree (g .inv) (g .agree) i ip (goes (g .objects .tasks i) (goOn th (replica (q .0)))) (t .marks .j)
         (rw (pe, look-jobs q th (q .0)) refl) (omega arith))
-        (still-goes (g .still) i (below g i ip) (goOn th (replica (q .0))) (doing-on (g .objects .tasks i) (ownerAt w i .doing) (q .0) th doing))
+        (still-goes (g .still) i (below g i ip) (goOn th (replica (q .0))) (doing-on (g .objects .tasks i) (ownerAt w i .doing) (q .0) th doing)) ip (stands-on th (q .0)) (hy .copies) refl
+        (collects (g .collecting (place .0)) _ _ refl refl (g .collecting (place .0) .forgiven) (counts-goes (g .inv) (place .0) (g .collecting (place .0) .counts) i ip (Looking q th) (goOn th (replica (q .0))) pe (not-idle (Looking q th) tt) (on-left (q .0) th) (on-free (q .0) th)))
 
     -- it is white, and claimed now
     claims : g .objects .hd (q .0) ≡ white
-        → Comes l w i (atPlace (g .pa) (g .ra) (Looking q th)) X
+        → Comes l w hy t ws i (atPlace (g .pa) (g .ra) (Looking q th)) X
         (ends (out (movedTable t i (t .marks) (taskAt t i .pending) (Placing (atPrimary (g .pa) q) (atThen (g .pa) th))) Moved) (set ws (g .pa (q .0) - 1) 1))
     unfolding happenAll
     claims d =
@@ -102,18 +108,19 @@ module _ {l : Limits} {w : Store} {t : Table} {ws : List ℕ} (g : Good l w t ws
         (goes (g .objects .tasks i) (Placing q th)) (set ws (g .pa (q .0) - 1) 1) (moved-goes g i ip (t .marks) (Placing q th))
         (look-claims (g .objects) i q th (g .inv) ip pe d)
         (claim-agree (g .inv) (g .agree) i ip (goes (g .objects .tasks i) (Placing q th)) (q .0) held d (rw (pe, claim-jobs q th) refl))
-        (still-goes (g .still) i (below g i ip) (Placing q th) (doing-claims (g .objects .tasks i) (ownerAt w i .doing) q th doing))
+        (still-goes (g .still) i (below g i ip) (Placing q th) (doing-claims (g .objects .tasks i) (ownerAt w i .doing) q th doing)) ip tt (hy .copies) refl
+        (collects (g .collecting (place .0)) _ _ refl refl (g .collecting (place .0) .forgiven) (counts-claims (g .inv) (place .0) (g .collecting (place .0) .counts) i ip q th pe d))
 
     waits : (u : ℕ) → g .objects .hd (q .0) ≡ claimed u
-        → Comes l w i (atPlace (g .pa) (g .ra) (Looking q th)) X (ends (waitOf t (Claimer (atPrimary (g .pa) q))) ws)
+        → Comes l w hy t ws i (atPlace (g .pa) (g .ra) (Looking q th)) X (ends (waitOf t (Claimer (atPrimary (g .pa) q))) ws)
     waits u d = let f = claimer-found (g .agree) (g .inv) (q .0) u d in rw (f .1) (comes-wait g i (below g i ip) (atPlace (g .pa) (g .ra) (Looking q th)) X (f .0))
 
-    pub look-comes : Comes l w i (atPlace (g .pa) (g .ra) (Looking q th)) X (settle t i (lookStepOf (t .marks) ws (t .limits .s) (atPrimary (g .pa) q) (atThen (g .pa) th)))
+    pub look-comes : Comes l w hy t ws i (atPlace (g .pa) (g .ra) (Looking q th)) X (settle t i (lookStepOf (t .marks) ws (t .limits .s) (atPrimary (g .pa) q) (atThen (g .pa) th)))
     unfolding lookStepOf settleOf
     look-comes = rw (look-of (g .inv) (g .agree) (q .0) held) (on (g .objects .hd (q .0)) refl)
       where
         on : (h : Hd) → g .objects .hd (q .0) ≡ h
-            → Comes l w i (atPlace (g .pa) (g .ra) (Looking q th)) X
+            → Comes l w hy t ws i (atPlace (g .pa) (g .ra) (Looking q th)) X
             (settle t i
             (ifForwarded (lookIs (g .ra (q .0)) (g .objects .shape .len (q .0)) h) (λ r len. acted (Goes (t .marks) (goOn (atThen (g .pa) th) r)) ws)
             (unplacedCase (t .marks) ws (atPrimary (g .pa) q) (atThen (g .pa) th) (lookIs (g .ra (q .0)) (g .objects .shape .len (q .0)) h))))
@@ -125,7 +132,7 @@ module _ {l : Limits} {w : Store} {t : Table} {ws : List ℕ} (g : Good l w t ws
   -- place: for want of room the heap is exhausted
   pub place-comes : g .objects .tasks i .place ≡ Placing q th
       → (roomOf true (t .marks) (end t) < twinNeed (g .objects .shape .len (q .0)) (g .objects .shape .len (q .0)) → X)
-      → Comes l w i (atPlace (g .pa) (g .ra) (Placing q th)) X
+      → Comes l w hy t ws i (atPlace (g .pa) (g .ra) (Placing q th)) X
       (settle t i (placeStepOf (t .marks) (end t) ws (t .limits .s) (atPrimary (g .pa) q) (atThen (g .pa) th)))
   unfolding settleOf happenAll
   place-comes pe f = on (place-step (g .inv) (g .agree) i q th ip pe)
@@ -140,7 +147,7 @@ module _ {l : Limits} {w : Store} {t : Table} {ws : List ℕ} (g : Good l w t ws
           (entered t (twinMarks (t .marks) (g .objects .shape .len (q .0)) (g .objects .shape .len (q .0))) i
           (atTask (g .pa) (upd (g .ra) (q .0) (t .marks .a + 2)) (goes (g .objects .tasks i) (goOn th (replica (q .0))))))
           (twinWords (t .marks) ws (g .pa (q .0)) (g .objects .shape .len (q .0))))
-          → Comes l w i (atPlace (g .pa) (g .ra) (Placing q th)) X
+          → Comes l w hy t ws i (atPlace (g .pa) (g .ra) (Placing q th)) X
           (settle t i (placeStepOf (t .marks) (end t) ws (t .limits .s) (primary (g .pa (q .0))) (atThen (g .pa) th)))
       on (inl h) = rw (h .0) (inl (refl, f (h .1)))
       on (inr h) =
@@ -151,4 +158,5 @@ module _ {l : Limits} {w : Store} {t : Table} {ws : List ℕ} (g : Good l w t ws
           (places (g .objects) i q th (g .inv) ip pe) (h .1)
           (still-goes (g .still) i (below g i ip) (goOn th (replica (q .0)))
           (doing-on (g .objects .tasks i) (ownerAt w i .doing) (q .0) th
-          (doing-place (g .objects .tasks i) (ownerAt w i .doing) q th (g .objects .tasks i .place) pe (g .still .tasks i (below g i ip) .doing)))))
+          (doing-place (g .objects .tasks i) (ownerAt w i .doing) q th (g .objects .tasks i .place) pe (g .still .tasks i (below g i ip) .doing)))) ip (stands-on th (q .0)) (hy .copies) refl
+          (collects (g .collecting (at-place (g .inv) i (Placing q th) pe .0)) _ _ refl refl (g .collecting (at-place (g .inv) i (Placing q th) pe .0) .forgiven) (counts-places (g .inv) (at-place (g .inv) i (Placing q th) pe .0) (g .collecting (at-place (g .inv) i (Placing q th) pe .0) .counts) i ip q th pe)))

@@ -25,6 +25,7 @@ use Rattle.table.specs.declared.Sought.the-variants.{Claimer, Holder}
 use Rattle.table.specs.declared.Answer.the-variants.{Moved}
 use Rattle.table.specs.declared.Task.{Task}
 use Rattle.table.specs.declared.Table.{Table}
+use Rattle.machine.specs.History.{History}
 use Rattle.machine.specs.Basics.{pick}
 use Rattle.machine.specs.Words.{primary, replica, operandWord, ifForwarded, lookOf, copyingOf}
 use Rattle.machine.specs.Entries.{taskAt, movedTable, out, ends}
@@ -47,6 +48,9 @@ use Rattle.machine.specs.Agree.Enter.{moves-agree}
 use Rattle.machine.specs.Agree.Search.{claimer-found, holder-found}
 use Rattle.machine.specs.Beside.Still.{DoingAt, Still}
 use Rattle.machine.specs.Beside.Doing.{still-goes}
+use Rattle.machine.specs.Beside.Stands.{stands-ahead}
+use Rattle.machine.specs.Objects.CountLaws.{counts-goes, counts-pays}
+use Rattle.machine.specs.Beside.Collects.{collects, not-idle, ahead-left, ahead-free}
 use Rattle.machine.specs.Beside.Good.{Good, Comes, comes-moved, comes-wait}
 use Rattle.machine.specs.Beside.Glue.{at-ahead, below, moved-goes, busy-at}
 
@@ -70,7 +74,7 @@ ahead-doing e d (Pointer p) h = on (eqb (p .0) 0)
     on true = h
     on false = h
 
-module _ {l : Limits} {w : Store} {t : Table} {ws : List ℕ} (g : Good l w t ws) (i : ℕ) (ip : i < t .limits .p) (x : Primary) (j : ℕ)
+module _ {l : Limits} {w : Store} {hy : History} {t : Table} {ws : List ℕ} (g : Good l w hy t ws) (i : ℕ) (ip : i < t .limits .p) (x : Primary) (j : ℕ)
     (se : g .objects .tasks i .storing ≡ Slot x j) (X : Type 0) (v : Operand) (pe : g .objects .tasks i .place ≡ Meet v) where
   stored : StoringOk (g .kept) (g .objects .shape) (Slot x j)
   stored = rw se at (g .inv .entries i .storing)
@@ -83,18 +87,19 @@ module _ {l : Limits} {w : Store} {t : Table} {ws : List ℕ} (g : Good l w t ws
 
   -- white: straight to the payment
   pays : g .objects .hd (x .0) ≡ white
-      → Comes l w i (atPlace (g .pa) (g .ra) (Meet v)) X (ends (out (movedTable t i (t .marks) (taskAt t i .pending) (Take (t .limits .k))) Moved) ws)
+      → Comes l w hy t ws i (atPlace (g .pa) (g .ra) (Meet v)) X (ends (out (movedTable t i (t .marks) (taskAt t i .pending) (Take (t .limits .k))) Moved) ws)
   unfolding happenAll holdingOf
   pays d =
       comes-moved g i (below g i ip) (atPlace (g .pa) (g .ra) (Meet v)) X (g .kept) (g .pa) (g .ra) (moves (g .objects) i (goes (g .objects .tasks i) (Take (t .limits .k)))) (place .0)
       (t .marks) _ _ (goes (g .objects .tasks i) (Take (t .limits .k))) ws (moved-goes g i ip (t .marks) (Take (t .limits .k)))
       (meets-white (g .inv) i ip x j se v pe d (t .limits .k) (g .agree .sized .limited .k-low))
       (moves-agree (g .inv) (g .agree) i ip (goes (g .objects .tasks i) (Take (t .limits .k))) (t .marks .j) (rw pe refl) (omega arith))
-      (still-goes (g .still) i (below g i ip) (Take (t .limits .k)) (busy-at g i ip (Meet v) pe tt))
+      (still-goes (g .still) i (below g i ip) (Take (t .limits .k)) (busy-at g i ip (Meet v) pe tt)) ip tt (hy .copies) refl
+      (collects (g .collecting (place .0)) _ _ refl refl (g .collecting (place .0) .forgiven) (counts-pays (g .inv) (place .0) (g .collecting (place .0) .counts) i ip (Meet v) pe (not-idle (Meet v) tt) refl))
 
   -- placed, and not locked at this slot: the new value's replica goes there
   goes-on : IsPlaced (g .objects .hd (x .0)) → ((u : ℕ) → g .objects .hd (x .0) ≡ locked j u → ⊥)
-      → Comes l w i (atPlace (g .pa) (g .ra) (Meet v)) X
+      → Comes l w hy t ws i (atPlace (g .pa) (g .ra) (Meet v)) X
       (ends (out (movedTable t i (t .marks) (taskAt t i .pending) (lookAhead (atOperand (g .pa) v) ToStoreCopy StoreCopy)) Moved) ws)
   unfolding happenAll holdingOf
   goes-on d f =
@@ -104,21 +109,22 @@ module _ {l : Limits} {w : Store} {t : Table} {ws : List ℕ} (g : Good l w t ws
       (rw (at-ahead (g .agree .lay) v (place .1) ToStoreCopy StoreCopy StoreCopy (λ c. refl)) (moved-goes g i ip (t .marks) (lookAhead v ToStoreCopy StoreCopy)))
       (meets-goes (g .inv) i ip x j se v pe d f)
       (moves-agree (g .inv) (g .agree) i ip (goes (g .objects .tasks i) (lookAhead v ToStoreCopy StoreCopy)) (t .marks .j) (rw pe (ap (λ n. t .marks .j + n) (ahead-jobs v))) (omega arith))
-      (still-goes (g .still) i (below g i ip) (lookAhead v ToStoreCopy StoreCopy) (ahead-doing (g .objects .tasks i) (ownerAt w i .doing) v (busy-at g i ip (Meet v) pe tt)))
+      (still-goes (g .still) i (below g i ip) (lookAhead v ToStoreCopy StoreCopy) (ahead-doing (g .objects .tasks i) (ownerAt w i .doing) v (busy-at g i ip (Meet v) pe tt))) ip (stands-ahead v ToStoreCopy StoreCopy (λ c. tt)) (hy .copies) refl
+      (collects (g .collecting (place .0)) _ _ refl refl (g .collecting (place .0) .forgiven) (counts-goes (g .inv) (place .0) (g .collecting (place .0) .counts) i ip (Meet v) (lookAhead v ToStoreCopy StoreCopy) pe (not-idle (Meet v) tt) (ahead-left v ToStoreCopy StoreCopy (λ c. refl)) (ahead-free v ToStoreCopy StoreCopy (λ c x h. h))))
 
-  waits-claimer : (u : ℕ) → g .objects .hd (x .0) ≡ claimed u → Comes l w i (atPlace (g .pa) (g .ra) (Meet v)) X (ends (waitOf t (Claimer (atPrimary (g .pa) x))) ws)
+  waits-claimer : (u : ℕ) → g .objects .hd (x .0) ≡ claimed u → Comes l w hy t ws i (atPlace (g .pa) (g .ra) (Meet v)) X (ends (waitOf t (Claimer (atPrimary (g .pa) x))) ws)
   waits-claimer u d = let f = claimer-found (g .agree) (g .inv) (x .0) u d in rw (f .1) (comes-wait g i (below g i ip) (atPlace (g .pa) (g .ra) (Meet v)) X (f .0))
 
-  waits-holder : (u : ℕ) → g .objects .hd (x .0) ≡ locked j u → Comes l w i (atPlace (g .pa) (g .ra) (Meet v)) X (ends (waitOf t (Holder (atPrimary (g .pa) x) j)) ws)
+  waits-holder : (u : ℕ) → g .objects .hd (x .0) ≡ locked j u → Comes l w hy t ws i (atPlace (g .pa) (g .ra) (Meet v)) X (ends (waitOf t (Holder (atPrimary (g .pa) x) j)) ws)
   waits-holder u d = let f = holder-found (g .agree) (g .inv) (x .0) j u d in rw (f .1) (comes-wait g i (below g i ip) (atPlace (g .pa) (g .ra) (Meet v)) X (f .0))
 
-  pub meet-comes : Comes l w i (atPlace (g .pa) (g .ra) (Meet v)) X
+  pub meet-comes : Comes l w hy t ws i (atPlace (g .pa) (g .ra) (Meet v)) X
       (settle t i (meetOf (t .marks) ws (t .limits .s) (t .limits .k) (Slot (atPrimary (g .pa) x) j) (atOperand (g .pa) v)))
   unfolding meetOf settleOf
   meet-comes = rw (look-of (g .inv) (g .agree) (x .0) held) (on (g .objects .hd (x .0)) refl)
     where
       on : (h : Hd) → g .objects .hd (x .0) ≡ h
-          → Comes l w i (atPlace (g .pa) (g .ra) (Meet v)) X
+          → Comes l w hy t ws i (atPlace (g .pa) (g .ra) (Meet v)) X
           (settle t i
           (ifForwarded (lookIs (g .ra (x .0)) (g .objects .shape .len (x .0)) h) (meetIn (t .marks) ws (atPrimary (g .pa) x) j (atOperand (g .pa) v))
           (acted (unmetCase (t .marks) (t .limits .k) (atPrimary (g .pa) x) (lookIs (g .ra (x .0)) (g .objects .shape .len (x .0)) h)) ws)))
@@ -130,7 +136,7 @@ module _ {l : Limits} {w : Store} {t : Table} {ws : List ℕ} (g : Good l w t ws
       on (locked m u) e = rw (copying-of (g .inv) (g .agree) (place .0) (x .0) held (rw e tt), e) (at (eqb m j) refl)
         where
           at : (b : Bool) → eqb m j ≡ b
-              → Comes l w i (atPlace (g .pa) (g .ra) (Meet v)) X
+              → Comes l w hy t ws i (atPlace (g .pa) (g .ra) (Meet v)) X
               (settle t i
               (pick b (acted (Waits (Holder (atPrimary (g .pa) x) j)) ws)
               (acted (Goes (t .marks) (lookAhead (atOperand (g .pa) v) ToStoreCopy StoreCopy)) ws)))

@@ -7,7 +7,7 @@ use mathlib.Core.Bool.{Bool, true, false}
 use native.Mathlib.Omega.{arith}
 use lib.ListN.{getD, set}
 use lib.Dec.{ltb, leb, eqb}
-use borrow.Author.Tests.{eqb-true, eqb-false, ne-eqb, lt-leb, lt-ltb, le-ltb}
+use borrow.Author.Tests.{eqb-true, eqb-false, ne-eqb, lt-leb, lt-ltb, le-ltb, ltb-true, ltb-false}
 use Rattle.table.specs.declared.Limits.{Limits}
 use Rattle.table.specs.declared.Primary.{Primary}
 use Rattle.table.specs.declared.Operand.{Operand}
@@ -21,16 +21,18 @@ use Rattle.table.specs.declared.Sought.the-variants.{Worker}
 use Rattle.table.specs.declared.Answer.the-variants.{Done, Moved}
 use Rattle.table.specs.declared.Task.{Task}
 use Rattle.table.specs.declared.Table.{Table}
+use Rattle.machine.specs.History.{History, withCopies}
 use Rattle.machine.specs.Basics.{pick}
 use Rattle.machine.specs.Words.{primary, replica, copiedWord}
 use Rattle.machine.specs.Entries.{taskAt, movedTable, marksAt, out, ends}
 use Rattle.machine.specs.Look.{lookAhead}
-use Rattle.machine.specs.Switch.{finishOf}
+use Rattle.machine.specs.Switch.{endedEntry, endedTable, finishOf}
 use Rattle.machine.specs.Pay.{takeOf, readOf, putOf, paid, releaseOf}
 use Rattle.machine.specs.Step.{waitOf, settle, settleOf, emptyTakeOf, takeStepOf}
 use Rattle.machine.specs.Tasks.{holdingOf, greyOf}
 use Rattle.machine.specs.StillStore.{Store, Doing, ownerAt, happenAll, isResting}
-use Rattle.machine.specs.Objects.State.{Hd, white, claimed, count, locked, State, IsPlaced, isRenamed, jobsIn, Late}
+use Rattle.machine.specs.Objects.Base.{upd}
+use Rattle.machine.specs.Objects.State.{Hd, white, claimed, count, locked, State, IsPlaced, isRenamed, jobsIn, Late, HasClaim}
 use Rattle.machine.specs.Objects.Inv.{Inv, Sound, Colours, Mode, SoundOperand, SoundCopied}
 use Rattle.machine.specs.Objects.Ops.{goes, moves, heads, copies, push}
 use Rattle.machine.specs.Objects.MoveLaws.{at-place}
@@ -42,9 +44,16 @@ use Rattle.machine.specs.Agree.Read.{object-of, copyingIs, copying-of, s
 use Rattle.machine.specs.Agree.Enter.{moves-agree, job-counted}
 use Rattle.machine.specs.Agree.Heads.{take-agree, release-agree}
 use Rattle.machine.specs.Agree.Slots.{copies-agree}
-use Rattle.machine.specs.Agree.Search.{worker-found}
+use Rattle.machine.specs.Agree.Search.{worker-found, not-grey}
 use Rattle.machine.specs.Beside.Still.{DoingAt, Still}
 use Rattle.machine.specs.Beside.Doing.{still-goes}
+use Rattle.machine.specs.Objects.CountLaws.{counts-ends-empty}
+use Rattle.machine.specs.Objects.CountHeads.{counts-takes}
+use Rattle.machine.specs.Beside.Collects.{collects}
+use Rattle.machine.specs.Beside.Collecting.{Collecting}
+use Rattle.machine.specs.Beside.Lives.{lived-same}
+use Rattle.machine.specs.Setup.{freshTask}
+use Rattle.machine.specs.Beside.Awake.{grey-jobs}
 use Rattle.machine.specs.Beside.Good.{Good, Comes, comes-moved, comes-wait}
 use Rattle.machine.specs.Beside.Glue.{copied-word, at-ahead, look-placed, below, moved-goes, busy-at}
 use Rattle.machine.specs.Beside.Ending.{ends-comes}
@@ -53,7 +62,11 @@ no-job : (pl : Place) (n : ℕ) → pl ≡ Take n → jobsIn (holdingOf pl) ≡ 
 unfolding holdingOf
 no-job pl n e = rw e refl
 
-module _ {l : Limits} {w : Store} {t : Table} {ws : List ℕ} (g : Good l w t ws) (i : ℕ) (ip : i < t .limits .p) (X : Type 0) where
+no-claim : (e : Task) (x : ℕ) → e ≡ freshTask → HasClaim e x → ⊥
+unfolding holdingOf
+no-claim e x q h = rw q at h
+
+module _ {l : Limits} {w : Store} {hy : History} {t : Table} {ws : List ℕ} (g : Good l w hy t ws) (i : ℕ) (ip : i < t .limits .p) (X : Type 0) where
   -- while collecting the headers have colours
   colours : g .objects .on ≡ true → Colours (g .kept) (g .objects .shape) (g .objects .snap) (g .objects .hd) (g .objects .prim) (g .objects .rep) (g .objects .has) (g .objects .stack)
       (Late (g .objects .tasks))
@@ -64,7 +77,7 @@ module _ {l : Limits} {w : Store} {t : Table} {ws : List ℕ} (g : Good l w t ws
     live = at-place (g .inv) i (Take n) pe .0
 
     -- pop and lock
-    pops : (x : ℕ) (st : List ℕ) → g .objects .stack ≡ x ∷ st → Comes l w i (atPlace (g .pa) (g .ra) (Take n)) X (settle t i (takeOf (t .marks) ws (t .limits .s) n))
+    pops : (x : ℕ) (st : List ℕ) → g .objects .stack ≡ x ∷ st → Comes l w hy t ws i (atPlace (g .pa) (g .ra) (Take n)) X (settle t i (takeOf (t .marks) ws (t .limits .s) n))
     unfolding takeOf settleOf happenAll holdingOf
     pops x st es =
         let h = colours live .stacked x (rw es (inl refl)) in
@@ -85,26 +98,56 @@ module _ {l : Limits} {w : Store} {t : Table} {ws : List ℕ} (g : Good l w t ws
         (moved-goes g i ip (marksAt (t .marks .a) (t .marks .top + 1) (t .marks .j + 1) (t .marks .copies)) (Read n (primary x) c))
         (takes (g .objects) i n x c st (g .inv) ip pe es e)
         (take-agree (g .inv) (g .agree) i ip (goes (g .objects .tasks i) (Read n (primary x) c)) x c st es e live (rw pe (omega arith)))
-        (still-goes (g .still) i (below g i ip) (Read n (primary x) c) (busy-at g i ip (Take n) pe tt)))
+        (still-goes (g .still) i (below g i ip) (Read n (primary x) c) (busy-at g i ip (Take n) pe tt)) ip tt (hy .copies) refl
+        (collects (g .collecting live) _ _ refl refl (g .collecting live .forgiven) (counts-takes (g .inv) live (g .collecting live .counts) i ip n x c st pe es e)))
+
+    -- what was left to pay is forgiven
+    forgives : g .objects .stack ≡ [] → greyOf (t .marks) (end t) (t .tasks) (t .limits .p) ≡ false
+        → Collecting (g .kept) (g .pa) (moves (g .objects) i (endedEntry (g .objects .tasks i .regs) (g .objects .tasks i .pending)))
+        (endedTable t i (t .marks) (taskAt t i .pending)) (withCopies hy (hy .copies))
+    forgives es e =
+        let c = g .collecting live in
+        let h = not-grey (g .agree) (g .inv) e in
+        record {
+          made = c .made;
+          forgiven = upd (c .forgiven) i n;
+          counts =
+              counts-ends-empty (g .inv) live (c .counts) i ip n pe es (jobless e)
+              (λ u x q. claimless u x q h);
+          same = c .same;
+          lived = lived-same (c .lived) (hy .copies);
+        }
+      where
+        jobless : greyOf (t .marks) (end t) (t .tasks) (t .limits .p) ≡ false → t .marks .j ≡ 0
+        jobless e = grey-jobs (t .marks) (end t) (t .tasks) (t .limits .p) e
+
+        claimless : (u x : ℕ) → HasClaim (g .objects .tasks u) x
+            → (g .objects .stack ≡ []) × ((u : ℕ) → u < t .limits .p → jobsIn (holdingOf (g .objects .tasks u .place)) ≡ 0)
+            × ((u x : ℕ) → u < t .limits .p → HasClaim (g .objects .tasks u) x → ⊥) → ⊥
+        claimless u x q h = on (ltb u (t .limits .p)) refl
+          where
+            on : (b : Bool) → ltb u (t .limits .p) ≡ b → ⊥
+            on true b = h .2 u x (ltb-true u (t .limits .p) b) q
+            on false b = no-claim (g .objects .tasks u) x (g .inv .owners .beyond u (ltb-false u (t .limits .p) b)) q
 
     -- nothing on the stack: the payment ends if nothing is grey, else it waits
-    finds-nothing : g .objects .stack ≡ [] → Comes l w i (atPlace (g .pa) (g .ra) (Take n)) X (emptyTakeOf t ws i)
+    finds-nothing : g .objects .stack ≡ [] → Comes l w hy t ws i (atPlace (g .pa) (g .ra) (Take n)) X (emptyTakeOf t ws i)
     unfolding emptyTakeOf
     finds-nothing es = on (greyOf (t .marks) (end t) (t .tasks) (t .limits .p)) refl
       where
         on : (b : Bool) → greyOf (t .marks) (end t) (t .tasks) (t .limits .p) ≡ b
-            → Comes l w i (atPlace (g .pa) (g .ra) (Take n)) X
+            → Comes l w hy t ws i (atPlace (g .pa) (g .ra) (Take n)) X
             (pick b (ends (waitOf t (Worker i)) ws) (finishOf t ws i (t .marks) (taskAt t i .pending) Done))
         on true e =
             let f = worker-found (g .agree) (g .inv) i n pe (stack-empty (g .agree) es) e in
             rw (f .1) (comes-wait g i (below g i ip) (atPlace (g .pa) (g .ra) (Take n)) X (f .0))
-        on false e = ends-comes g i ip (atPlace (g .pa) (g .ra) (Take n)) X Done tt (λ after. refl) (no-job (g .objects .tasks i .place) n pe) (take-ends (g .objects) i n (g .inv) ip pe)
+        on false e = ends-comes g i ip (atPlace (g .pa) (g .ra) (Take n)) X Done tt (λ after. refl) (no-job (g .objects .tasks i .place) n pe) refl live (forgives es e) (take-ends (g .objects) i n (g .inv) ip pe)
 
-    pub take-comes : Comes l w i (atPlace (g .pa) (g .ra) (Take n)) X (takeStepOf t ws i n)
+    pub take-comes : Comes l w hy t ws i (atPlace (g .pa) (g .ra) (Take n)) X (takeStepOf t ws i n)
     unfolding takeStepOf
     take-comes = on (g .objects .stack) refl
       where
-        on : (st : List ℕ) → g .objects .stack ≡ st → Comes l w i (atPlace (g .pa) (g .ra) (Take n)) X
+        on : (st : List ℕ) → g .objects .stack ≡ st → Comes l w hy t ws i (atPlace (g .pa) (g .ra) (Take n)) X
             (pick (ltb (t .marks .top) (end t)) (settle t i (takeOf (t .marks) ws (t .limits .s) n)) (emptyTakeOf t ws i))
         on [] e = rw (le-ltb (t .marks .top) (end t) (omega (arith, stack-empty (g .agree) e))) (finds-nothing e)
         on (x ∷ st) e = rw (lt-ltb (t .marks .top) (end t) (stack-room (g .agree) e)) (pops x st e)

@@ -14,6 +14,7 @@ use Rattle.table.specs.declared.Table.{Table}
 use Rattle.table.specs.declared.Answer.the-variants.{Done, Report}
 use lib.ListN.{set}
 use lib.Dec.{eqb}
+use Rattle.machine.specs.History.{History}
 use Rattle.machine.specs.Words.{primary, bottomOf}
 use Rattle.machine.specs.Entries.{entry, withTask, withRegister, withRoot}
 use Rattle.machine.specs.Tasks.{holdingOf, idleOf}
@@ -30,6 +31,9 @@ use Rattle.machine.specs.Agree.Complete.{isIdle, task-in, move-of, clear
 use Rattle.machine.specs.Agree.Regs.{register-agree, root-agree}
 use Rattle.machine.specs.Beside.Still.{DoingAt, StillTask}
 use Rattle.machine.specs.Beside.StillLaws.{still-owner, still-register, still-root, still-reroot, map-set}
+use Rattle.machine.specs.Objects.CountLaws.{counts-same}
+use Rattle.machine.specs.Beside.Awake.{due-same, due-roots}
+use Rattle.machine.specs.Beside.Collects.{collects}
 use Rattle.machine.specs.Beside.Good.{Good}
 use Rattle.machine.specs.Beside.Completes.{Meant, choose, two}
 
@@ -44,7 +48,7 @@ idle-held pa (Both p x i) = refl
 resting-at : (e : Task) (d : Doing) (pl : Place) → pl ≡ Idle → DoingAt e d pl → d ≡ resting
 resting-at e d pl pe h = rw pe at h
 
-module _ {l : Limits} {w : Store} {t : Table} {ws : List ℕ} (g : Good l w t ws) where
+module _ {l : Limits} {w : Store} {hy : History} {t : Table} {ws : List ℕ} (g : Good l w hy t ws) where
   pub idle-at : (task : ℕ) → isIdle (g .objects) task ≡ true → g .objects .tasks task .place ≡ Idle
   idle-at task e = idle-only (g .pa) (g .objects .tasks task .place) (idle-held (g .pa) (holdingOf (g .objects .tasks task .place)) ∙ e)
 
@@ -55,7 +59,7 @@ module _ {l : Limits} {w : Store} {t : Table} {ws : List ℕ} (g : Good l w t ws
 
   -- a register set to a sound object, in table and store
   pub register-good : (task : ℕ) → task < t .limits .p → g .objects .tasks task .place ≡ Idle → (r x : ℕ) → Sound (g .kept) (g .objects .shape) x
-      → Good l (holding w task r x) (withRegister t task r (primary (g .pa x))) ws
+      → Good l (holding w task r x) hy (withRegister t task r (primary (g .pa x))) ws
   unfolding withRegister withTask
   register-good task ip pe r x h = record {
     kept = g .kept;
@@ -65,6 +69,11 @@ module _ {l : Limits} {w : Store} {t : Table} {ws : List ℕ} (g : Good l w t ws
     limits = g .limits;
     long = g .long;
     inv = register-inv (g .inv) task ip pe r x h;
+    collecting = λ f.
+        collects (g .collecting f) _ _ refl refl (g .collecting f .forgiven)
+        (counts-same (g .inv) f (g .collecting f .counts) task ip e refl refl (λ y c. c) (λ c. pe));
+    awake = λ f. due-same t task _ refl ∙ g .awake f;
+    collected = g .collected;
     home = g .home;
     agree = register-agree (g .inv) (g .agree) task ip r x;
     still = still-owner (g .still) task (task-in (g .agree) task ip) e _ (record {
@@ -83,7 +92,7 @@ module _ {l : Limits} {w : Store} {t : Table} {ws : List ℕ} (g : Good l w t ws
 
   -- a root set to a sound object
   pub root-good : (r x : ℕ) → Sound (g .kept) (g .objects .shape) x
-      → Good l (store (w .owners) (set (w .roots) r x) (w .things)) (withRoot t r (primary (g .pa x))) ws
+      → Good l (store (w .owners) (set (w .roots) r x) (w .things)) hy (withRoot t r (primary (g .pa x))) ws
   unfolding withRoot
   root-good r x h = record {
     kept = g .kept;
@@ -93,6 +102,9 @@ module _ {l : Limits} {w : Store} {t : Table} {ws : List ℕ} (g : Good l w t ws
     limits = g .limits;
     long = g .long;
     inv = root-inv (g .inv) r x h;
+    collecting = λ f. collects (g .collecting f) _ _ refl refl (g .collecting f .forgiven) (g .collecting f .counts);
+    awake = λ f. due-roots t _ ∙ g .awake f;
+    collected = g .collected;
     home = g .home;
     agree = root-agree (g .inv) (g .agree) r x;
     still = still-reroot (g .still) r x;
@@ -112,7 +124,7 @@ module _ {l : Limits} {w : Store} {t : Table} {ws : List ℕ} (g : Good l w t ws
   held-is task r ip = still-register (g .still) task (task-in (g .agree) task ip) r
 
   pub move-meant : (task to from : ℕ)
-      → Meant l ws (λ x. told w (Call.Move task to from) x []) (ready w (t .limits .p) task to from Done) (moveOf t ws task to from)
+      → Meant l hy ws (λ x. told w (Call.Move task to from) x []) (ready w (t .limits .p) task to from Done) (moveOf t ws task to from)
   unfolding happenAll
   move-meant task to from =
       rw (move-of (g .agree) (g .long) task to from)
@@ -124,7 +136,7 @@ module _ {l : Limits} {w : Store} {t : Table} {ws : List ℕ} (g : Good l w t ws
         answer = refl;
       }))
 
-  pub clear-meant : (task r : ℕ) → Meant l ws (λ x. told w (Call.Clear task r) x []) (ready w (t .limits .p) task r r Done) (clearOf t ws task r)
+  pub clear-meant : (task r : ℕ) → Meant l hy ws (λ x. told w (Call.Clear task r) x []) (ready w (t .limits .p) task r r Done) (clearOf t ws task r)
   unfolding happenAll
   clear-meant task r =
       rw (clear-of (g .agree) (g .long) task r)
@@ -133,7 +145,7 @@ module _ {l : Limits} {w : Store} {t : Table} {ws : List ℕ} (g : Good l w t ws
       record { good = rw (g .agree .lay .nilp) at (register-good task ip (idle-at task e) r 0 sound-nil); fine = tt; answer = refl }))
 
   pub put-meant : (task to r : ℕ)
-      → Meant l ws (λ x. told w (Call.Put task to r) x []) (ready w (t .limits .p) task to r Done) (putRootOf t ws task to r)
+      → Meant l hy ws (λ x. told w (Call.Put task to r) x []) (ready w (t .limits .p) task to r Done) (putRootOf t ws task to r)
   unfolding happenAll
   put-meant task to r =
       rw (put-root-of (g .agree) (g .long) task to r)
@@ -142,7 +154,7 @@ module _ {l : Limits} {w : Store} {t : Table} {ws : List ℕ} (g : Good l w t ws
       record { good = rw (held-is task r ip) (root-good to (root (g .objects .tasks task .regs) r) (sound-register task r)); fine = tt; answer = refl }))
 
   pub get-meant : (task r from : ℕ)
-      → Meant l ws (λ x. told w (Call.Get task r from) x []) (ready w (t .limits .p) task r from Done) (getRootOf t ws task r from)
+      → Meant l hy ws (λ x. told w (Call.Get task r from) x []) (ready w (t .limits .p) task r from Done) (getRootOf t ws task r from)
   unfolding happenAll
   get-meant task r from =
       rw (get-root-of (g .agree) (g .long) task r from)
@@ -154,11 +166,11 @@ module _ {l : Limits} {w : Store} {t : Table} {ws : List ℕ} (g : Good l w t ws
         answer = refl;
       }))
 
-  pub report-meant : Meant l ws (λ x. told w Call.Report x []) (Report (t .on) (t .marks .a - bottomOf (t .upper) (t .limits .h)) (t .marks .copies)) (reportOf t ws)
+  pub report-meant : Meant l hy ws (λ x. told w Call.Report x []) (Report (t .on) (t .marks .a - bottomOf (t .upper) (t .limits .h)) (t .marks .copies)) (reportOf t ws)
   unfolding happenAll
   report-meant = rw (report-of (g .agree) (g .long)) (record { good = g; fine = tt; answer = refl })
 
-  pub same-meant : (task a b : ℕ) → Meant l ws (λ x. told w (Call.Same task a b) x []) (sameAnswer w (t .limits .p) task a b) (sameOf t ws task a b)
+  pub same-meant : (task a b : ℕ) → Meant l hy ws (λ x. told w (Call.Same task a b) x []) (sameAnswer w (t .limits .p) task a b) (sameOf t ws task a b)
   unfolding happenAll sameAnswer
   same-meant task a b =
       rw (same-of (g .inv) (g .agree) (g .long) task a b)

@@ -16,6 +16,7 @@ use Rattle.table.specs.declared.Place.the-variants.{Take, Release}
 use Rattle.table.specs.declared.Deed.the-variants.{Goes, Ends}
 use Rattle.table.specs.declared.Answer.the-variants.{Done}
 use Rattle.table.specs.declared.Table.{Table}
+use Rattle.machine.specs.History.{Copy, History, copy}
 use Rattle.machine.specs.Basics.{pick}
 use Rattle.machine.specs.Words.{primary, replica}
 use Rattle.machine.specs.Entries.{taskAt, marksAt}
@@ -37,6 +38,8 @@ use Rattle.machine.specs.Agree.Agree.{Agree, Held}
 use Rattle.machine.specs.Agree.Enter.{job-counted}
 use Rattle.machine.specs.Agree.Heads.{release-agree}
 use Rattle.machine.specs.Beside.Doing.{still-goes}
+use Rattle.machine.specs.Objects.CountHeads.{counts-releases, counts-releases-last}
+use Rattle.machine.specs.Beside.Lives.{lived-same}
 use Rattle.machine.specs.Beside.Good.{Good, Comes, comes-moved}
 use Rattle.machine.specs.Beside.Glue.{look-placed, below, moved-goes, busy-at}
 use Rattle.machine.specs.Beside.Finish.{finishes}
@@ -65,7 +68,7 @@ one-job : (pl : Place) (n : ℕ) (x : Primary) (k : ℕ) → pl ≡ Release n x 
 unfolding holdingOf
 one-job pl n x k e = rw e refl
 
-module _ {l : Limits} {w : Store} {t : Table} {ws : List ℕ} (g : Good l w t ws) (i : ℕ) (ip : i < t .limits .p) (X : Type 0) (n : ℕ) (x : Primary) (k : ℕ)
+module _ {l : Limits} {w : Store} {hy : History} {t : Table} {ws : List ℕ} (g : Good l w hy t ws) (i : ℕ) (ip : i < t .limits .p) (X : Type 0) (n : ℕ) (x : Primary) (k : ℕ)
     (pe : g .objects .tasks i .place ≡ Release n x k) where
   live : g .objects .on ≡ true
   live = at-place (g .inv) i (Release n x k) pe .0
@@ -78,7 +81,7 @@ module _ {l : Limits} {w : Store} {t : Table} {ws : List ℕ} (g : Good l w t ws
 
   -- more to pay
   goes-on : n ≢ 1
-      → Comes l w i (atPlace (g .pa) (g .ra) (Release n x k)) X
+      → Comes l w hy t ws i (atPlace (g .pa) (g .ra) (Release n x k)) X
       (settle t i (acted (Goes (freed (t .marks) k) (Take (n - 1))) (unlocked (t .marks) ws (g .ra (x .0)) (g .pa (x .0)) k)))
   unfolding settleOf happenAll holdingOf
   goes-on d =
@@ -87,13 +90,21 @@ module _ {l : Limits} {w : Store} {t : Table} {ws : List ℕ} (g : Good l w t ws
       (goes (g .objects .tasks i) (Take (n - 1))) _ (moved-goes g i ip (freed (t .marks) k) (Take (n - 1)))
       (releases (g .objects) i n x k (n - 1) (g .inv) ip pe (omega (arith, at-place (g .inv) i (Release n x k) pe .1)))
       (release-agree (g .inv) (g .agree) i ip (goes (g .objects .tasks i) (Take (n - 1))) (x .0) k lock live (rw pe (omega (arith, job))))
-      (still-goes (g .still) i (below g i ip) (Take (n - 1)) (busy-at g i ip (Release n x k) pe tt))
+      (still-goes (g .still) i (below g i ip) (Take (n - 1)) (busy-at g i ip (Release n x k) pe tt)) ip tt (copy (g .pa (x .0)) k ∷ hy .copies) refl
+      (let c = g .collecting live in
+      record {
+        made = copy (x .0) k ∷ c .made;
+        forgiven = c .forgiven;
+        counts = counts-releases (g .inv) live (c .counts) i ip n x k pe job;
+        same = ap (λ (cs : List Copy). copy (g .pa (x .0)) k ∷ cs) (c .same);
+        lived = lived-same (c .lived) (copy (g .pa (x .0)) k ∷ hy .copies);
+      })
 
   -- the last copy
-  ends-it : Comes l w i (atPlace (g .pa) (g .ra) (Release n x k)) X
+  ends-it : n ≡ 1 → Comes l w hy t ws i (atPlace (g .pa) (g .ra) (Release n x k)) X
       (settle t i (acted (Ends (freed (t .marks) k)) (unlocked (t .marks) ws (g .ra (x .0)) (g .pa (x .0)) k)))
   unfolding settleOf happenAll
-  ends-it =
+  ends-it last =
       finishes g i (atPlace (g .pa) (g .ra) (Release n x k)) X (g .kept) (g .pa) (g .ra)
       (heads (g .objects) (x .0) (count k) (push k (x .0) (g .objects .stack)) i (endedEntry (g .objects .tasks i .regs) (g .objects .tasks i .pending)))
       (unlocked (t .marks) ws (g .ra (x .0)) (g .pa (x .0)) k) (freed (t .marks) k) (taskAt t i .pending) Done
@@ -101,9 +112,16 @@ module _ {l : Limits} {w : Store} {t : Table} {ws : List ℕ} (g : Good l w t ws
       (rw (ended-table g i ip (freed (t .marks) k))
       (release-agree (g .inv) (g .agree) i ip (endedEntry (g .objects .tasks i .regs) (g .objects .tasks i .pending)) (x .0) k lock live
       (rw (one-job (g .objects .tasks i .place) n x k pe, ended-jobs (g .objects .tasks i .regs) (g .objects .tasks i .pending)) (omega (arith, job)))))
-      (λ f. off-on (sym f ∙ live)) (still-ends g i ip)
+      (λ f. off-on (sym f ∙ live)) (still-ends g i ip) (copy (g .pa (x .0)) k ∷ hy .copies) refl (λ f. let c = g .collecting live in
+      record {
+        made = copy (x .0) k ∷ c .made;
+        forgiven = c .forgiven;
+        counts = counts-releases-last (g .inv) live (c .counts) i ip n x k pe last job;
+        same = ap (λ (cs : List Copy). copy (g .pa (x .0)) k ∷ cs) (c .same);
+        lived = lived-same (c .lived) (copy (g .pa (x .0)) k ∷ hy .copies);
+      }) (λ f. off-on (sym f ∙ live))
 
-  pub release-comes : Comes l w i (atPlace (g .pa) (g .ra) (Release n x k)) X (settle t i (releaseOf (t .marks) ws (t .limits .s) n (atPrimary (g .pa) x) k))
+  pub release-comes : Comes l w hy t ws i (atPlace (g .pa) (g .ra) (Release n x k)) X (settle t i (releaseOf (t .marks) ws (t .limits .s) n (atPrimary (g .pa) x) k))
   unfolding releaseOf
   release-comes =
       rw (
@@ -113,7 +131,7 @@ module _ {l : Limits} {w : Store} {t : Table} {ws : List ℕ} (g : Good l w t ws
       )
       (on (eqb n 1) refl)
     where
-      on : (b : Bool) → eqb n 1 ≡ b → Comes l w i (atPlace (g .pa) (g .ra) (Release n x k)) X
+      on : (b : Bool) → eqb n 1 ≡ b → Comes l w hy t ws i (atPlace (g .pa) (g .ra) (Release n x k)) X
           (settle t i (acted (pick b (Ends (freed (t .marks) k)) (Goes (freed (t .marks) k) (Take (n - 1)))) (unlocked (t .marks) ws (g .ra (x .0)) (g .pa (x .0)) k)))
-      on true e = ends-it
+      on true e = ends-it (eqb-true n 1 e)
       on false e = goes-on (eqb-false n 1 e)

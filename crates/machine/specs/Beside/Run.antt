@@ -15,9 +15,10 @@ use Rattle.table.specs.declared.Gate.{Gate}
 use Rattle.table.specs.declared.Gate.the-variants.{Open, Shut}
 use Rattle.table.specs.declared.Answer.{Answer}
 use Rattle.table.specs.declared.Answer.the-variants.{Accepted, Done, Value, Moved, Wait, Report, No}
+use Rattle.machine.specs.History.{History, historyAfter, historyOf}
 use Rattle.machine.specs.Basics.{pick}
 use Rattle.machine.specs.Numbers.{refusal}
-use Rattle.machine.specs.Entries.{taskAt, Ends, ends}
+use Rattle.machine.specs.Entries.{taskAt, no, Ends, ends}
 use Rattle.machine.specs.Step.{stepThrough, taskStepOf, stepOf}
 use Rattle.machine.specs.Call.{Call}
 use Rattle.machine.specs.Calls.{call, then, run}
@@ -26,6 +27,7 @@ use Rattle.machine.specs.Kinds.{made, follows, beside, stepKinds}
 use Rattle.machine.specs.Agree.Encode.{atPlace}
 use Rattle.machine.specs.Agree.Gates.{call-gate}
 use Rattle.machine.specs.Beside.Room.{WantsRoom}
+use Rattle.machine.specs.Beside.Histories.{as-it-was, no-copy, history-is}
 use Rattle.machine.specs.Beside.Good.{Good, Undamaged, Comes}
 use Rattle.machine.specs.Beside.Glue.{entry-of}
 use Rattle.machine.specs.Beside.Steps.{step-at}
@@ -48,10 +50,10 @@ Spends (Call.Step task) t ws = WantsRoom t ws (taskAt t task .place)
 Spends Call.Report t ws = ⊥
 
 -- what one call more makes of table and store
-abbrev pub Proceeds : Limits → Store → Call → Ends → Type 1
-Proceeds l w c e =
+abbrev pub Proceeds : Limits → Store → History → Call → Ends → Type 1
+Proceeds l w hy c e =
     ((then c e .out .answer ≡ No Exhausted) × Spends c (e .out .table) (e .words))
-    ⊎ (Good l (follows w c e (then c e)) (then c e .out .table) (then c e .words) × Undamaged (then c e .out .answer))
+    ⊎ (Good l (follows w c e (then c e)) (historyAfter c e (then c e) hy) (then c e .out .table) (then c e .words) × Undamaged (then c e .out .answer))
 
 -- the store is told of a step by its kinds alone
 told-step : (w : Store) (i : ℕ) (x : Answer) (ks : List Kind) → told w (Call.Step i) x ks ≡ happenAll w i ks
@@ -63,27 +65,28 @@ told-step w i (Wait q) ks = refl
 told-step w i (Report on live copies) ks = refl
 told-step w i (No x) ks = refl
 
-module _ {l : Limits} {w : Store} {t : Table} {ws : List ℕ} (g : Good l w t ws) (i : ℕ) where
+module _ {l : Limits} {w : Store} {hy : History} {t : Table} {ws : List ℕ} (g : Good l w hy t ws) (i : ℕ) where
   -- a step of one of the tasks, and of none
-  task-comes : i < t .limits .p → Comes l w i (taskAt t i .place) (WantsRoom t ws (taskAt t i .place)) (taskStepOf t ws i)
+  task-comes : i < t .limits .p → Comes l w hy t ws i (taskAt t i .place) (WantsRoom t ws (taskAt t i .place)) (taskStepOf t ws i)
   task-comes ip =
       rw (ap (λ (e : Task). e .place) (entry-of g i ip)) (step-at g i ip (g .objects .tasks i .place) refl)
 
-  step-comes : Comes l w i (taskAt t i .place) (WantsRoom t ws (taskAt t i .place)) (stepOf t ws i)
+  step-comes : Comes l w hy t ws i (taskAt t i .place) (WantsRoom t ws (taskAt t i .place)) (stepOf t ws i)
   unfolding stepOf happenAll
   step-comes = rw (call-gate (g .agree) (g .long) i) (on (ltb i (t .limits .p)) refl)
     where
       on : (b : Bool) → ltb i (t .limits .p) ≡ b
-          → Comes l w i (taskAt t i .place) (WantsRoom t ws (taskAt t i .place)) (stepThrough (pick b Open (Shut (refusal 2))) t ws (taskStepOf t ws i))
+          → Comes l w hy t ws i (taskAt t i .place) (WantsRoom t ws (taskAt t i .place)) (stepThrough (pick b Open (Shut (refusal 2))) t ws (taskStepOf t ws i))
       on true e = task-comes (ltb-true i (t .limits .p) e)
-      on false e = inr (g, tt)
+      on false e =
+          inr (rw (history-is t ws (taskAt t i .place) (ends (no t 2) ws) hy (hy .copies) (as-it-was (t .on)) (no-copy (taskAt t i .place) (no t 2 .answer) (hy .copies) refl)) g, tt)
 
 -- a step, told to the store
-step-proceeds : (l : Limits) (w : Store) (i : ℕ) (e : Ends) → Good l w (e .out .table) (e .words) → Proceeds l w (Call.Step i) e
-step-proceeds l w i e g = on (step-comes g i)
+step-proceeds : (l : Limits) (w : Store) (hy : History) (i : ℕ) (e : Ends) → Good l w hy (e .out .table) (e .words) → Proceeds l w hy (Call.Step i) e
+step-proceeds l w hy i e g = on (step-comes g i)
   where
-    on : Comes l w i (taskAt (e .out .table) i .place) (WantsRoom (e .out .table) (e .words) (taskAt (e .out .table) i .place)) (stepOf (e .out .table) (e .words) i)
-        → Proceeds l w (Call.Step i) e
+    on : Comes l w hy (e .out .table) (e .words) i (taskAt (e .out .table) i .place) (WantsRoom (e .out .table) (e .words) (taskAt (e .out .table) i .place)) (stepOf (e .out .table) (e .words) i)
+        → Proceeds l w hy (Call.Step i) e
     on (inl h) = inl h
     on (inr h) =
         inr (
@@ -94,34 +97,34 @@ step-proceeds l w i e g = on (step-comes g i)
           h .1,
         )
 
-pub proceeds : (l : Limits) (w : Store) (c : Call) (e : Ends) → Good l w (e .out .table) (e .words) → Proceeds l w c e
-proceeds l w (Call.New task r len m) e g = inr (call-keeps g (Call.New task r len m) tt)
-proceeds l w (Call.Fill task v) e g = inr (call-keeps g (Call.Fill task v) tt)
-proceeds l w (Call.FillPointer task r) e g = inr (call-keeps g (Call.FillPointer task r) tt)
-proceeds l w (Call.Load task to from slot) e g = inr (call-keeps g (Call.Load task to from slot) tt)
-proceeds l w (Call.Store task o slot v) e g = inr (call-keeps g (Call.Store task o slot v) tt)
-proceeds l w (Call.StorePointer task o slot r) e g = inr (call-keeps g (Call.StorePointer task o slot r) tt)
-proceeds l w (Call.Move task to from) e g = inr (call-keeps g (Call.Move task to from) tt)
-proceeds l w (Call.Clear task r) e g = inr (call-keeps g (Call.Clear task r) tt)
-proceeds l w (Call.Same task a b) e g = inr (call-keeps g (Call.Same task a b) tt)
-proceeds l w (Call.Put task root r) e g = inr (call-keeps g (Call.Put task root r) tt)
-proceeds l w (Call.Get task r root) e g = inr (call-keeps g (Call.Get task r root) tt)
-proceeds l w (Call.Step task) e g = step-proceeds l w task e g
-proceeds l w Call.Report e g = inr (call-keeps g Call.Report tt)
+pub proceeds : (l : Limits) (w : Store) (hy : History) (c : Call) (e : Ends) → Good l w hy (e .out .table) (e .words) → Proceeds l w hy c e
+proceeds l w hy (Call.New task r len m) e g = inr (call-keeps g (Call.New task r len m) tt)
+proceeds l w hy (Call.Fill task v) e g = inr (call-keeps g (Call.Fill task v) tt)
+proceeds l w hy (Call.FillPointer task r) e g = inr (call-keeps g (Call.FillPointer task r) tt)
+proceeds l w hy (Call.Load task to from slot) e g = inr (call-keeps g (Call.Load task to from slot) tt)
+proceeds l w hy (Call.Store task o slot v) e g = inr (call-keeps g (Call.Store task o slot v) tt)
+proceeds l w hy (Call.StorePointer task o slot r) e g = inr (call-keeps g (Call.StorePointer task o slot r) tt)
+proceeds l w hy (Call.Move task to from) e g = inr (call-keeps g (Call.Move task to from) tt)
+proceeds l w hy (Call.Clear task r) e g = inr (call-keeps g (Call.Clear task r) tt)
+proceeds l w hy (Call.Same task a b) e g = inr (call-keeps g (Call.Same task a b) tt)
+proceeds l w hy (Call.Put task root r) e g = inr (call-keeps g (Call.Put task root r) tt)
+proceeds l w hy (Call.Get task r root) e g = inr (call-keeps g (Call.Get task r root) tt)
+proceeds l w hy (Call.Step task) e g = step-proceeds l w hy task e g
+proceeds l w hy Call.Report e g = inr (call-keeps g Call.Report tt)
 
 -- no call of the run has answered 10
 abbrev pub Living : List Call → Ends → Type 0
 Living [] e = Unit {0}
 Living (c ∷ cs) e = (then c e .out .answer ≢ No Exhausted) × Living cs (then c e)
 
-pub good-run : (l : Limits) (cs : List Call) (e : Ends) (w : Store) → Good l w (e .out .table) (e .words) → Living cs e
-    → Good l (beside cs e w) (run cs e .out .table) (run cs e .words)
-unfolding run beside
-good-run l [] e w g h = g
-good-run l (c ∷ cs) e w g h = on (λ k. good-run l cs (then c e) (follows w c e (then c e)) k (h .1)) (proceeds l w c e g)
+pub good-run : (l : Limits) (cs : List Call) (e : Ends) (w : Store) (hy : History) → Good l w hy (e .out .table) (e .words) → Living cs e
+    → Good l (beside cs e w) (historyOf cs e hy) (run cs e .out .table) (run cs e .words)
+unfolding run beside historyOf
+good-run l [] e w hy g h = g
+good-run l (c ∷ cs) e w hy g h = on (λ k. good-run l cs (then c e) (follows w c e (then c e)) (historyAfter c e (then c e) hy) k (h .1)) (proceeds l w hy c e g)
   where
-    on : (Good l (follows w c e (then c e)) (then c e .out .table) (then c e .words)
-        → Good l (beside cs (then c e) (follows w c e (then c e))) (run cs (then c e) .out .table) (run cs (then c e) .words))
-        → Proceeds l w c e → Good l (beside cs (then c e) (follows w c e (then c e))) (run cs (then c e) .out .table) (run cs (then c e) .words)
+    on : (Good l (follows w c e (then c e)) (historyAfter c e (then c e) hy) (then c e .out .table) (then c e .words)
+        → Good l (beside cs (then c e) (follows w c e (then c e))) (historyOf cs (then c e) (historyAfter c e (then c e) hy)) (run cs (then c e) .out .table) (run cs (then c e) .words))
+        → Proceeds l w hy c e → Good l (beside cs (then c e) (follows w c e (then c e))) (historyOf cs (then c e) (historyAfter c e (then c e) hy)) (run cs (then c e) .out .table) (run cs (then c e) .words)
     on f (inl q) = absurd (h .0 (q .0))
     on f (inr q) = f (q .0)

@@ -25,6 +25,7 @@ use Rattle.machine.specs.Agree.Encode.{atTask}
 use Rattle.machine.specs.Agree.Mem.{Loc, P, R, S, Holds}
 use Rattle.machine.specs.Agree.Agree.{Agree, addr, Ok, content}
 use Rattle.machine.specs.Agree.Home.{home-none}
+use Rattle.machine.specs.History.{noHistory}
 use Rattle.machine.specs.Beside.Good.{Good}
 
 -- what accepted limits are
@@ -82,7 +83,7 @@ no-words h ws (P x o) k out = absurd (omega (arith, k .0))
 no-words h ws (R x o) k out = absurd (omega (arith, k .0))
 no-words h ws (S o) k out = absurd (omega (arith, k))
 
-pub fresh-good : (l : Limits) (n : ℕ) → sizesOk l n ≡ true → Good l emptyStore (freshTable l) (replicate n 0)
+pub fresh-good : (l : Limits) (n : ℕ) → sizesOk l n ≡ true → Good l emptyStore noHistory (freshTable l) (replicate n 0)
 unfolding bottomOf endOf holdingOf
 fresh-good l n e =
     let z = sizes-are l n e in
@@ -122,6 +123,9 @@ fresh-good l n e =
         tasks = λ i b. getD-replicate 8 i freshTask noTask b;
       };
       home = λ f. home-none (λ x. Unit {0}) (λ x. 0) (start nothing .shape) 2 2 refl;
+      collecting = λ f. off-on f;
+      awake = λ f. off-on f;
+      collected = λ f. (record { once = tt; only = λ p i m. absurd m; all = λ p i m l. absurd m }, refl);
       still = record {
         owners = refl;
         tasks = λ i b. rw (getD-replicate 8 i (owner (replicate 8 0) 0 0 resting) (owner [] 0 0 resting) b) (record { regs = refl; pending = refl; goesTo = tt; doing = refl });

@@ -21,6 +21,7 @@ use Rattle.table.specs.declared.Place.{Place}
 use Rattle.table.specs.declared.Place.the-variants.{Idle, New, Asked, FillWrite, FillCopy, StoreWrite, Meet, StoreCopy, Take, Read, Put, Release, Looking, Placing}
 use Rattle.table.specs.declared.Task.{Task}
 use Rattle.table.specs.declared.Table.{Table}
+use Rattle.machine.specs.History.{History}
 use Rattle.machine.specs.Basics.{pick}
 use Rattle.machine.specs.Entries.{pendingOk, taskAt, no, Ends, ends}
 use Rattle.machine.specs.Tasks.{holdingOf, idleOf}
@@ -37,7 +38,8 @@ use Rattle.machine.specs.Agree.Agree.{end}
 use Rattle.machine.specs.Agree.Names.{sound-held}
 use Rattle.machine.specs.Agree.Read.{object-of}
 use Rattle.machine.specs.Beside.Room.{WantsRoom}
-use Rattle.machine.specs.Beside.Doing.{Stands}
+use Rattle.machine.specs.Beside.Stands.{Stands, busy-there}
+use Rattle.machine.specs.Beside.Histories.{as-it-was, history-is}
 use Rattle.machine.specs.Beside.Good.{Good, Comes}
 use Rattle.machine.specs.Beside.Glue.{entry-of}
 use Rattle.machine.specs.Beside.Stores.{store-write-comes, store-copy-comes}
@@ -50,38 +52,6 @@ use Rattle.machine.specs.Beside.Releases.{release-comes}
 use Rattle.machine.specs.Beside.Fills.{fill-write-comes, fill-off-comes, fill-copy-comes}
 use Rattle.machine.specs.Beside.News.{new-on-comes}
 use Rattle.machine.specs.Beside.Flips.{new-off-comes}
-
--- a place that is not idle is none in the table either
-look-busy : (pa ra : ℕ → ℕ) (q : Primary) (th : Then) → idleOf (holdingOf (atPlace pa ra (Looking q th))) ≡ false
-unfolding holdingOf
-look-busy pa ra q (ToWrite v) = refl
-look-busy pa ra q ToStoreCopy = refl
-look-busy pa ra q ToFillCopy = refl
-look-busy pa ra q (ToPut n x i) = refl
-
-place-busy : (pa ra : ℕ → ℕ) (q : Primary) (th : Then) → idleOf (holdingOf (atPlace pa ra (Placing q th))) ≡ false
-unfolding holdingOf
-place-busy pa ra q (ToWrite v) = refl
-place-busy pa ra q ToStoreCopy = refl
-place-busy pa ra q ToFillCopy = refl
-place-busy pa ra q (ToPut n x i) = refl
-
-busy-there : (pa ra : ℕ → ℕ) (pl : Place) → Stands pl → idleOf (holdingOf (atPlace pa ra pl)) ≡ false
-unfolding holdingOf
-busy-there pa ra Idle s = absurd s
-busy-there pa ra (New r len m) s = refl
-busy-there pa ra (Asked r len m) s = refl
-busy-there pa ra (FillWrite v) s = refl
-busy-there pa ra (FillCopy c) s = refl
-busy-there pa ra (StoreWrite v) s = refl
-busy-there pa ra (Meet v) s = refl
-busy-there pa ra (StoreCopy c) s = refl
-busy-there pa ra (Take n) s = refl
-busy-there pa ra (Read n x i) s = refl
-busy-there pa ra (Put n x i c) s = refl
-busy-there pa ra (Release n x i) s = refl
-busy-there pa ra (Looking q th) s = look-busy pa ra q th
-busy-there pa ra (Placing q th) s = place-busy pa ra q th
 
 pending-there : (K : ℕ → Type 0) (sh : Shape) (hd : ℕ → Hd) (on : Bool) (pa : ℕ → ℕ) (d : Pending) → PendingOk K sh hd on d → pendingOk (atPending pa d) ≡ true
 pending-there K sh hd on pa Nothing o = refl
@@ -96,13 +66,13 @@ by-entry : (t : Table) (ws : List ℕ) (i : ℕ) (e : Task) → taskAt t i ≡ e
 unfolding taskStepOf
 by-entry t ws i e q = ap (λ (e : Task). by t ws i e (e .place) (idleOf (holdingOf (e .place))) (pendingOk (e .pending)) (t .on)) q
 
-module _ {l : Limits} {w : Store} {t : Table} {ws : List ℕ} (g : Good l w t ws) (i : ℕ) (ip : i < t .limits .p) where
+module _ {l : Limits} {w : Store} {hy : History} {t : Table} {ws : List ℕ} (g : Good l w hy t ws) (i : ℕ) (ip : i < t .limits .p) where
   -- a step of an idle task is refused
-  rests : (X : Type 0) → Comes l w i Idle X (ends (no t 6) ws)
+  rests : (X : Type 0) → Comes l w hy t ws i Idle X (ends (no t 6) ws)
   unfolding happenAll
-  rests X = inr (g, tt)
+  rests X = inr (rw (history-is t ws Idle (ends (no t 6) ws) hy (hy .copies) (as-it-was (t .on)) refl) g, tt)
 
-  idle-step : g .objects .tasks i .place ≡ Idle → Comes l w i Idle ⊥ (taskStepOf t ws i)
+  idle-step : g .objects .tasks i .place ≡ Idle → Comes l w hy t ws i Idle ⊥ (taskStepOf t ws i)
   unfolding holdingOf
   idle-step pe =
       rw
@@ -113,9 +83,9 @@ module _ {l : Limits} {w : Store} {t : Table} {ws : List ℕ} (g : Good l w t ws
 
   -- of a task that stands at a place, what collecting and off do there
   acts : (pl : Place) → g .objects .tasks i .place ≡ pl → Stands pl → (X : Type 0)
-      → (g .objects .on ≡ true → Comes l w i (atPlace (g .pa) (g .ra) pl) X (onStepOf t ws i (atTask (g .pa) (g .ra) (g .objects .tasks i)) (atPlace (g .pa) (g .ra) pl)))
-      → (g .objects .on ≡ false → Comes l w i (atPlace (g .pa) (g .ra) pl) X (offStepOf t ws i (atTask (g .pa) (g .ra) (g .objects .tasks i)) (atPlace (g .pa) (g .ra) pl)))
-      → Comes l w i (atPlace (g .pa) (g .ra) pl) X (taskStepOf t ws i)
+      → (g .objects .on ≡ true → Comes l w hy t ws i (atPlace (g .pa) (g .ra) pl) X (onStepOf t ws i (atTask (g .pa) (g .ra) (g .objects .tasks i)) (atPlace (g .pa) (g .ra) pl)))
+      → (g .objects .on ≡ false → Comes l w hy t ws i (atPlace (g .pa) (g .ra) pl) X (offStepOf t ws i (atTask (g .pa) (g .ra) (g .objects .tasks i)) (atPlace (g .pa) (g .ra) pl)))
+      → Comes l w hy t ws i (atPlace (g .pa) (g .ra) pl) X (taskStepOf t ws i)
   acts pl pe s X a b = rw seen (on (g .objects .on) refl)
     where
       e : Task
@@ -135,7 +105,7 @@ module _ {l : Limits} {w : Store} {t : Table} {ws : List ℕ} (g : Good l w t ws
           ∙ ap (λ (z : Bool). by t ws i (atTask (g .pa) (g .ra) (g .objects .tasks i)) (atPlace (g .pa) (g .ra) pl) false true z) (g .agree .on)
 
       on : (c : Bool) → g .objects .on ≡ c
-          → Comes l w i (atPlace (g .pa) (g .ra) pl) X
+          → Comes l w hy t ws i (atPlace (g .pa) (g .ra) pl) X
           (pick c (onStepOf t ws i (atTask (g .pa) (g .ra) (g .objects .tasks i)) (atPlace (g .pa) (g .ra) pl))
           (offStepOf t ws i (atTask (g .pa) (g .ra) (g .objects .tasks i)) (atPlace (g .pa) (g .ra) pl)))
       on true e = a e
@@ -143,8 +113,8 @@ module _ {l : Limits} {w : Store} {t : Table} {ws : List ℕ} (g : Good l w t ws
 
   -- a place that only collecting has
   only-on : (pl : Place) → g .objects .tasks i .place ≡ pl → Stands pl → (X : Type 0) → g .objects .on ≡ true
-      → Comes l w i (atPlace (g .pa) (g .ra) pl) X (onStepOf t ws i (atTask (g .pa) (g .ra) (g .objects .tasks i)) (atPlace (g .pa) (g .ra) pl))
-      → Comes l w i (atPlace (g .pa) (g .ra) pl) X (taskStepOf t ws i)
+      → Comes l w hy t ws i (atPlace (g .pa) (g .ra) pl) X (onStepOf t ws i (atTask (g .pa) (g .ra) (g .objects .tasks i)) (atPlace (g .pa) (g .ra) pl))
+      → Comes l w hy t ws i (atPlace (g .pa) (g .ra) pl) X (taskStepOf t ws i)
   only-on pl pe s X live a = acts pl pe s X (λ e. a) (λ e. absurd (off-on (sym e ∙ live)))
 
   -- the Store's slot, and the pending object, are there where the place needs them
@@ -158,7 +128,7 @@ module _ {l : Limits} {w : Store} {t : Table} {ws : List ℕ} (g : Good l w t ws
   with-pending P Nothing e h f = absurd h
   with-pending P (Making x r len n) e h f = f x r len n e
 
-  at-store : (v : Operand) → g .objects .tasks i .place ≡ StoreWrite v → Comes l w i (atPlace (g .pa) (g .ra) (StoreWrite v)) ⊥ (taskStepOf t ws i)
+  at-store : (v : Operand) → g .objects .tasks i .place ≡ StoreWrite v → Comes l w hy t ws i (atPlace (g .pa) (g .ra) (StoreWrite v)) ⊥ (taskStepOf t ws i)
   unfolding onStepOf offStepOf
   at-store v pe =
       acts (StoreWrite v) pe tt ⊥
@@ -167,7 +137,7 @@ module _ {l : Limits} {w : Store} {t : Table} {ws : List ℕ} (g : Good l w t ws
       (λ off. with-store _ (g .objects .tasks i .storing) refl (at-place (g .inv) i (StoreWrite v) pe .0)
       (λ x j se. rw (ap (atStoring (g .pa)) se) (store-off-comes g i ip x j se ⊥ v off pe)))
 
-  at-fill : (v : Operand) → g .objects .tasks i .place ≡ FillWrite v → Comes l w i (atPlace (g .pa) (g .ra) (FillWrite v)) ⊥ (taskStepOf t ws i)
+  at-fill : (v : Operand) → g .objects .tasks i .place ≡ FillWrite v → Comes l w hy t ws i (atPlace (g .pa) (g .ra) (FillWrite v)) ⊥ (taskStepOf t ws i)
   unfolding onStepOf offStepOf
   at-fill v pe =
       acts (FillWrite v) pe tt ⊥
@@ -176,41 +146,41 @@ module _ {l : Limits} {w : Store} {t : Table} {ws : List ℕ} (g : Good l w t ws
       (λ off. with-pending _ (g .objects .tasks i .pending) refl (at-place (g .inv) i (FillWrite v) pe .1)
       (λ x r len f me. rw (ap (atPending (g .pa)) me) (fill-off-comes g i ip ⊥ x r len f me v pe off)))
 
-  at-fill-copy : (c : Copied) → g .objects .tasks i .place ≡ FillCopy c → Comes l w i (atPlace (g .pa) (g .ra) (FillCopy c)) ⊥ (taskStepOf t ws i)
+  at-fill-copy : (c : Copied) → g .objects .tasks i .place ≡ FillCopy c → Comes l w hy t ws i (atPlace (g .pa) (g .ra) (FillCopy c)) ⊥ (taskStepOf t ws i)
   unfolding onStepOf
   at-fill-copy c pe =
       only-on (FillCopy c) pe tt ⊥ (at-place (g .inv) i (FillCopy c) pe .0)
       (with-pending _ (g .objects .tasks i .pending) refl (at-place (g .inv) i (FillCopy c) pe .1 .1)
       (λ x r len f me. rw (ap (atPending (g .pa)) me) (fill-copy-comes g i ip ⊥ x r len f me c pe)))
 
-  at-meet : (v : Operand) → g .objects .tasks i .place ≡ Meet v → Comes l w i (atPlace (g .pa) (g .ra) (Meet v)) ⊥ (taskStepOf t ws i)
+  at-meet : (v : Operand) → g .objects .tasks i .place ≡ Meet v → Comes l w hy t ws i (atPlace (g .pa) (g .ra) (Meet v)) ⊥ (taskStepOf t ws i)
   unfolding onStepOf
   at-meet v pe =
       only-on (Meet v) pe tt ⊥ (at-place (g .inv) i (Meet v) pe .0)
       (with-store _ (g .objects .tasks i .storing) refl (at-place (g .inv) i (Meet v) pe .1)
       (λ x j se. rw (ap (atStoring (g .pa)) se) (meet-comes g i ip x j se ⊥ v pe)))
 
-  at-store-copy : (c : Copied) → g .objects .tasks i .place ≡ StoreCopy c → Comes l w i (atPlace (g .pa) (g .ra) (StoreCopy c)) ⊥ (taskStepOf t ws i)
+  at-store-copy : (c : Copied) → g .objects .tasks i .place ≡ StoreCopy c → Comes l w hy t ws i (atPlace (g .pa) (g .ra) (StoreCopy c)) ⊥ (taskStepOf t ws i)
   unfolding onStepOf
   at-store-copy c pe =
       only-on (StoreCopy c) pe tt ⊥ (at-place (g .inv) i (StoreCopy c) pe .0)
       (with-store _ (g .objects .tasks i .storing) refl (at-place (g .inv) i (StoreCopy c) pe .1)
       (λ x j se. rw (ap (atStoring (g .pa)) se) (store-copy-comes g i ip x j se ⊥ c pe)))
 
-  at-new : (r len m : ℕ) → g .objects .tasks i .place ≡ New r len m → Comes l w i (New r len m) (WantsRoom t ws (New r len m)) (taskStepOf t ws i)
+  at-new : (r len m : ℕ) → g .objects .tasks i .place ≡ New r len m → Comes l w hy t ws i (New r len m) (WantsRoom t ws (New r len m)) (taskStepOf t ws i)
   unfolding onStepOf offStepOf
   at-new r len m pe =
       acts (New r len m) pe tt (WantsRoom t ws (New r len m)) (λ on. new-on-comes g i ip r len m (WantsRoom t ws (New r len m)) pe on)
-      (λ off. new-off-comes g i ip r len m (inl pe) off (WantsRoom t ws (New r len m)) (New r len m) refl (λ after q. rw q refl) (λ f. f))
+      (λ off. new-off-comes g i ip r len m (inl pe) off (WantsRoom t ws (New r len m)) (New r len m) refl (λ after q. rw q refl) (λ f. f) refl)
 
-  at-asked : (r len m : ℕ) → g .objects .tasks i .place ≡ Asked r len m → Comes l w i (Asked r len m) (WantsRoom t ws (Asked r len m)) (taskStepOf t ws i)
+  at-asked : (r len m : ℕ) → g .objects .tasks i .place ≡ Asked r len m → Comes l w hy t ws i (Asked r len m) (WantsRoom t ws (Asked r len m)) (taskStepOf t ws i)
   unfolding onStepOf offStepOf
   at-asked r len m pe =
       acts (Asked r len m) pe tt (WantsRoom t ws (Asked r len m)) (λ on. absurd (off-on (sym (at-place (g .inv) i (Asked r len m) pe .0) ∙ on)))
-      (λ off. new-off-comes g i ip r len m (inr pe) off (WantsRoom t ws (Asked r len m)) (Asked r len m) refl (λ after q. refl) (λ f. f))
+      (λ off. new-off-comes g i ip r len m (inr pe) off (WantsRoom t ws (Asked r len m)) (Asked r len m) refl (λ after q. refl) (λ f. f) refl)
 
   at-placing : (q : Primary) (th : Then) → g .objects .tasks i .place ≡ Placing q th
-      → Comes l w i (atPlace (g .pa) (g .ra) (Placing q th)) (WantsRoom t ws (atPlace (g .pa) (g .ra) (Placing q th))) (taskStepOf t ws i)
+      → Comes l w hy t ws i (atPlace (g .pa) (g .ra) (Placing q th)) (WantsRoom t ws (atPlace (g .pa) (g .ra) (Placing q th))) (taskStepOf t ws i)
   unfolding onStepOf
   at-placing q th pe =
       let h = at-place (g .inv) i (Placing q th) pe in
@@ -224,7 +194,7 @@ module _ {l : Limits} {w : Store} {t : Table} {ws : List ℕ} (g : Good l w t ws
       )))
 
   pub step-at : (pl : Place) → g .objects .tasks i .place ≡ pl
-      → Comes l w i (atPlace (g .pa) (g .ra) pl) (WantsRoom t ws (atPlace (g .pa) (g .ra) pl)) (taskStepOf t ws i)
+      → Comes l w hy t ws i (atPlace (g .pa) (g .ra) pl) (WantsRoom t ws (atPlace (g .pa) (g .ra) pl)) (taskStepOf t ws i)
   unfolding onStepOf
   step-at Idle pe = idle-step pe
   step-at (New r len m) pe = at-new r len m pe

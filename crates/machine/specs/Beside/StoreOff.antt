@@ -15,6 +15,7 @@ use Rattle.table.specs.declared.Place.the-variants.{StoreWrite}
 use Rattle.table.specs.declared.Answer.the-variants.{Done}
 use Rattle.table.specs.declared.Task.{Task}
 use Rattle.table.specs.declared.Table.{Table}
+use Rattle.machine.specs.History.{History}
 use Rattle.machine.specs.Words.{operandWord}
 use Rattle.machine.specs.Entries.{taskAt}
 use Rattle.machine.specs.Begin.{isPointer}
@@ -23,7 +24,7 @@ use Rattle.machine.specs.Switch.{endedEntry}
 use Rattle.machine.specs.Step.{settle, settleOf}
 use Rattle.machine.specs.Tasks.{holdingOf}
 use Rattle.machine.specs.StillStore.{Store, storing, ownerAt, thingAt, withThing, writesThing, withOwner, endsOwner, happenAll}
-use Rattle.machine.specs.Objects.Base.{upd, upd-same, slot}
+use Rattle.machine.specs.Objects.Base.{off-on, upd, upd-same, slot}
 use Rattle.machine.specs.Objects.State.{State, OfStore, jobsIn}
 use Rattle.machine.specs.Objects.Inv.{Inv, StoringOk, SoundOperand}
 use Rattle.machine.specs.Objects.Ops.{moves, stores}
@@ -54,7 +55,7 @@ stored-inv {K} {p} {s} o t x j v inv l se off pe =
     e : upd (o .tasks) t (o .tasks t) t ≡ o .tasks t
     e = upd-same (o .tasks) t (o .tasks t)
 
-module _ {l : Limits} {w : Store} {t : Table} {ws : List ℕ} (g : Good l w t ws) (i : ℕ) (ip : i < t .limits .p) (x : Primary) (j : ℕ)
+module _ {l : Limits} {w : Store} {hy : History} {t : Table} {ws : List ℕ} (g : Good l w hy t ws) (i : ℕ) (ip : i < t .limits .p) (x : Primary) (j : ℕ)
     (se : g .objects .tasks i .storing ≡ Slot x j) where
   stored : StoringOk (g .kept) (g .objects .shape) (Slot x j)
   stored = rw se at (g .inv .entries i .storing)
@@ -63,7 +64,7 @@ module _ {l : Limits} {w : Store} {t : Table} {ws : List ℕ} (g : Good l w t ws
   held = sound-held (g .kept) (g .objects .shape) (x .0) (stored .0) (stored .1)
 
   pub store-off-comes : (X : Type 0) (v : Operand) → g .objects .on ≡ false → g .objects .tasks i .place ≡ StoreWrite v
-      → Comes l w i (atPlace (g .pa) (g .ra) (StoreWrite v)) X
+      → Comes l w hy t ws i (atPlace (g .pa) (g .ra) (StoreWrite v)) X
       (settle t i (storeWriteOf false (t .marks) ws (t .limits .s) (Slot (atPrimary (g .pa) x) j) (atOperand (g .pa) v)))
   unfolding storeWriteOf settleOf happenAll holdingOf
   store-off-comes X v off pe =
@@ -79,7 +80,7 @@ module _ {l : Limits} {w : Store} {t : Table} {ws : List ℕ} (g : Good l w t ws
       (g .home)
       (still-ended (still-written (g .still) (x .0) j (operandWord v) (stored .0) (stored .1 .1) filled) i (below g i ip) (g .objects .tasks i .regs) (g .objects .tasks i .pending)
       (q .regs) (q .pending) (q .goesTo)
-      (filling (g .kept) (g .objects .shape) (g .objects .hd) (g .objects .on) (g .objects .tasks i .pending) (g .inv .entries i .pending))))
+      (filling (g .kept) (g .objects .shape) (g .objects .hd) (g .objects .on) (g .objects .tasks i .pending) (g .inv .entries i .pending))) (hy .copies) refl (λ f. off-on (sym off ∙ f)) (g .collected))
     where
       q : StillTask (g .objects .tasks i) (ownerAt w i)
       q = g .still .tasks i (below g i ip)

@@ -19,6 +19,7 @@ use Rattle.table.specs.declared.Place.{Place}
 use Rattle.table.specs.declared.Place.the-variants.{StoreWrite, Meet, StoreCopy, Take}
 use Rattle.table.specs.declared.Task.{Task}
 use Rattle.table.specs.declared.Table.{Table}
+use Rattle.machine.specs.History.{History}
 use Rattle.machine.specs.Basics.{pick}
 use Rattle.machine.specs.Words.{primary, operandWord, copiedWord, objectOf, lookOf}
 use Rattle.machine.specs.Entries.{taskAt}
@@ -39,10 +40,12 @@ use Rattle.machine.specs.Agree.Slots.{stores-agree, copies-agree}
 use Rattle.machine.specs.Beside.Still.{DoingAt, Still}
 use Rattle.machine.specs.Beside.StillLaws.{still-written}
 use Rattle.machine.specs.Beside.Doing.{still-goes}
+use Rattle.machine.specs.Objects.CountLaws.{counts-pays, counts-stores}
+use Rattle.machine.specs.Beside.Collects.{collects, not-idle}
 use Rattle.machine.specs.Beside.Good.{Good, Comes, comes-moved}
 use Rattle.machine.specs.Beside.Glue.{operand-word, copied-word, look-placed, below, moved-goes, busy-at}
 
-module _ {l : Limits} {w : Store} {t : Table} {ws : List ℕ} (g : Good l w t ws) (i : ℕ) (ip : i < t .limits .p) (x : Primary) (j : ℕ)
+module _ {l : Limits} {w : Store} {hy : History} {t : Table} {ws : List ℕ} (g : Good l w hy t ws) (i : ℕ) (ip : i < t .limits .p) (x : Primary) (j : ℕ)
     (se : g .objects .tasks i .storing ≡ Slot x j) where
   stored : StoringOk (g .kept) (g .objects .shape) (Slot x j)
   stored = rw se at (g .inv .entries i .storing)
@@ -52,14 +55,15 @@ module _ {l : Limits} {w : Store} {t : Table} {ws : List ℕ} (g : Good l w t ws
 
   -- the primary slot written
   pub store-write-comes : (X : Type 0) (v : Operand) → g .objects .on ≡ true → g .objects .tasks i .place ≡ StoreWrite v
-      → Comes l w i (atPlace (g .pa) (g .ra) (StoreWrite v)) X (settle t i (storeWriteOf true (t .marks) ws (t .limits .s) (Slot (atPrimary (g .pa) x) j) (atOperand (g .pa) v)))
+      → Comes l w hy t ws i (atPlace (g .pa) (g .ra) (StoreWrite v)) X (settle t i (storeWriteOf true (t .marks) ws (t .limits .s) (Slot (atPrimary (g .pa) x) j) (atOperand (g .pa) v)))
   unfolding storeWriteOf settleOf happenAll holdingOf
   store-write-comes X v on pe =
       rw (object-of (g .inv) (g .agree) (x .0) held, lt-leb (g .objects .shape .len (x .0)) j (stored .2), operand-word (g .pa) v j (g .objects .shape .ptr (x .0)) (place .0 .0))
       (comes-moved g i (below g i ip) (atPlace (g .pa) (g .ra) (StoreWrite v)) X (g .kept) (g .pa) (g .ra) (stores (g .objects) (x .0) j (operandWord v) i (goes (g .objects .tasks i) (Meet v))) on _ _ _
       (goes (g .objects .tasks i) (Meet v)) _ (moved-goes g i ip (t .marks) (Meet v)) (store-writes (g .inv) i ip x j se on v pe)
       (stores-agree (g .inv) (g .agree) i ip (goes (g .objects .tasks i) (Meet v)) (rw pe refl) (x .0) held j (operandWord v) written)
-      (rw doing (still-goes (still-written (g .still) (x .0) j (operandWord v) (stored .0) (stored .1 .1) filled) i (below g i ip) (Meet v) (rw doing refl))))
+      (rw doing (still-goes (still-written (g .still) (x .0) j (operandWord v) (stored .0) (stored .1 .1) filled) i (below g i ip) (Meet v) (rw doing refl))) ip tt (hy .copies) refl
+      (collects (g .collecting on) _ _ refl refl (g .collecting on .forgiven) (counts-stores (g .inv) on (g .collecting on .counts) i ip v pe)))
     where
       place : OfStore (Slot x j) (λ x i. (isPointer v ≡ ltb i (g .objects .shape .ptr x)) × (g .objects .on ≡ true → i < g .objects .shape .ptr x → IsSeen (g .objects .hd (g .objects .prim x i))))
           × SoundOperand (g .kept) (g .objects .shape) v
@@ -76,7 +80,7 @@ module _ {l : Limits} {w : Store} {t : Table} {ws : List ℕ} (g : Good l w t ws
 
   -- the replica's slot written; then the payment
   pub store-copy-comes : (X : Type 0) (c : Copied) → g .objects .tasks i .place ≡ StoreCopy c
-      → Comes l w i (atPlace (g .pa) (g .ra) (StoreCopy c)) X
+      → Comes l w hy t ws i (atPlace (g .pa) (g .ra) (StoreCopy c)) X
       (settle t i (storeCopyOf (t .marks) ws (t .limits .s) (t .limits .k) (Slot (atPrimary (g .pa) x) j) (atCopied (g .ra) c)))
   unfolding storeCopyOf settleOf happenAll holdingOf
   store-copy-comes X c pe =
@@ -89,7 +93,8 @@ module _ {l : Limits} {w : Store} {t : Table} {ws : List ℕ} (g : Good l w t ws
       (copies (g .objects) (x .0) j (copiedWord c) i (goes (g .objects .tasks i) (Take (t .limits .k)))) (place .0) _ _ _ (goes (g .objects .tasks i) (Take (t .limits .k))) _
       (moved-goes g i ip (t .marks) (Take (t .limits .k))) (store-copies (g .inv) i ip x j se c pe (t .limits .k) (g .agree .sized .limited .k-low))
       (copies-agree (g .inv) (g .agree) i ip (goes (g .objects .tasks i) (Take (t .limits .k))) (rw pe refl) (x .0) held j (copiedWord c) (place .1 .2) (stored .2))
-      (still-goes (g .still) i (below g i ip) (Take (t .limits .k)) (busy-at g i ip (StoreCopy c) pe tt)))
+      (still-goes (g .still) i (below g i ip) (Take (t .limits .k)) (busy-at g i ip (StoreCopy c) pe tt)) ip tt (hy .copies) refl
+      (collects (g .collecting (place .0)) _ _ refl refl (g .collecting (place .0) .forgiven) (counts-pays (g .inv) (place .0) (g .collecting (place .0) .counts) i ip (StoreCopy c) pe (not-idle (StoreCopy c) tt) refl)))
     where
       place : (g .objects .on ≡ true)
           × OfStore (Slot x j) (λ x i. (isRenamed c ≡ ltb i (g .objects .shape .ptr x)) × (g .objects .prim x i ≡ copiedWord c) × IsPlaced (g .objects .hd x))

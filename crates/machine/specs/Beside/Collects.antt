@@ -1,0 +1,84 @@
+-- A collection goes on: a step's counts, and what lived at the flip as before.
+use Prim.Native.Nat.{ℕ, suc, _+_, _≤_, _<_}
+use mathlib.Core.Path.{_≡_, refl, ap, sym, _∙_}
+use mathlib.Core.Logic.{_≢_}
+use mathlib.Core.List.{List, [], _∷_, map}
+use mathlib.Core.Bool.{Bool, true, false}
+use Rattle.table.specs.declared.Limits.{Limits}
+use Rattle.table.specs.declared.Marks.{Marks}
+use Rattle.table.specs.declared.Operand.{Operand}
+use Rattle.table.specs.declared.Operand.the-variants.{Plain, Pointer}
+use Rattle.table.specs.declared.Copied.{Copied}
+use Rattle.table.specs.declared.Copied.the-variants.{Same, Renamed}
+use Rattle.table.specs.declared.Then.{Then}
+use Rattle.table.specs.declared.Then.the-variants.{ToWrite, ToStoreCopy, ToFillCopy, ToPut}
+use Rattle.table.specs.declared.Place.{Place}
+use Rattle.table.specs.declared.Place.the-variants.{Idle, Looking}
+use Rattle.table.specs.declared.Table.{Table}
+use Rattle.machine.specs.Basics.{pick}
+use Rattle.machine.specs.Words.{replica}
+use Rattle.machine.specs.Look.{goOn, lookAhead}
+use Rattle.machine.specs.Tasks.{holdingOf}
+use Rattle.machine.specs.History.{Copy, History, withCopies}
+use Rattle.machine.specs.Objects.Base.{clash}
+use Rattle.machine.specs.Objects.State.{State, ClaimIn}
+use Rattle.machine.specs.Objects.Counts.{Counts, thenLeft, leftToPay}
+use Rattle.machine.specs.Agree.Agree.{bottom}
+use Rattle.machine.specs.Beside.Stands.{Stands}
+use Rattle.machine.specs.Beside.Collecting.{copyAt, Collecting}
+use Rattle.machine.specs.Beside.Lives.{lived-same}
+use lib.Dec.{eqb}
+
+-- the same objects copied, the same shapes
+pub collects : {K : ℕ → Type 0} {pa : ℕ → ℕ} {o : State} {t : Table} {h : History} → (c : Collecting K pa o t h) → (o′ : State) (t′ : Table) → o′ .shape ≡ o .shape → o′ .snap ≡ o .snap
+    → (forgiven : ℕ → ℕ)
+    → Counts (t′ .limits .k) (t′ .limits .p) (t′ .limits .s) (o′ .shape) (o′ .snap) (o′ .hd) (o′ .stack) (o′ .tasks) (bottom t′) (t′ .marks .a) (t′ .marks .j) (t′ .marks .copies)
+    (c .made) forgiven
+    → Collecting K pa o′ t′ (withCopies h (h .copies))
+collects {h = h} c o′ t′ es eg forgiven counts = record {
+  made = c .made;
+  forgiven = forgiven;
+  counts = counts;
+  same = c .same;
+  lived = rw (es, eg) (lived-same (c .lived) (h .copies));
+}
+
+-- a busy place is not the idle one
+pub not-idle : (pl : Place) → Stands pl → pl ≢ Idle
+not-idle pl s e = rw e at s
+
+-- what follows a look pays as much and claims nothing
+pub on-left : (q : ℕ) (th : Then) → leftToPay (goOn th (replica q)) ≡ thenLeft th
+on-left q (ToWrite v) = refl
+on-left q ToStoreCopy = refl
+on-left q ToFillCopy = refl
+on-left q (ToPut n x i) = refl
+
+pub on-free : (q : ℕ) (th : Then) (x : ℕ) → ClaimIn (holdingOf (goOn th (replica q))) x → ⊥
+unfolding holdingOf
+on-free q (ToWrite v) x h = h
+on-free q ToStoreCopy x h = h
+on-free q ToFillCopy x h = h
+on-free q (ToPut n y i) x h = h
+
+-- and so does what follows a value that is known
+pub ahead-left : (v : Operand) (th : Then) (copy : Copied → Place) → ((c : Copied) → leftToPay (copy c) ≡ thenLeft th) → leftToPay (lookAhead v th copy) ≡ thenLeft th
+ahead-left (Plain w) th copy f = f (Same w)
+ahead-left (Pointer p) th copy f = on (eqb (p .0) 0)
+  where
+    on : (b : Bool) → leftToPay (pick b (copy (Renamed (replica 0))) (Looking p th)) ≡ thenLeft th
+    on true = f (Renamed (replica 0))
+    on false = refl
+
+pub ahead-free : (v : Operand) (th : Then) (copy : Copied → Place) → ((c : Copied) (x : ℕ) → ClaimIn (holdingOf (copy c)) x → ⊥) → (x : ℕ)
+    → ClaimIn (holdingOf (lookAhead v th copy)) x → ⊥
+unfolding holdingOf
+ahead-free (Plain w) th copy f x = f (Same w) x
+ahead-free (Pointer p) th copy f x = on (eqb (p .0) 0) th
+  where
+    on : (b : Bool) (th : Then) → ClaimIn (holdingOf (pick b (copy (Renamed (replica 0))) (Looking p th))) x → ⊥
+    on true th = f (Renamed (replica 0)) x
+    on false (ToWrite v) = λ h. h
+    on false ToStoreCopy = λ h. h
+    on false ToFillCopy = λ h. h
+    on false (ToPut n y i) = λ h. h

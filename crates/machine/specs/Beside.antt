@@ -45,3 +45,5 @@ pub mod Reached
 pub mod LivedAt
 pub mod Awake
 pub mod Collects
+pub mod RoomLaws
+pub mod Enough

@@ -29,3 +29,4 @@ pub mod CountFinal
 pub mod FlipCounts
 pub mod CountBound
 pub mod CountFills
+pub mod CountGoes

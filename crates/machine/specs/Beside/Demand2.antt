@@ -22,13 +22,38 @@ use Rattle.machine.specs.History.{noHistory, historyOf}
 use Rattle.machine.specs.Beside.Good.{Good, Undamaged}
 use Rattle.machine.specs.Beside.Start.{fresh-good}
 use Rattle.machine.specs.Beside.Calls.{load-answers, same-answers}
-use Rattle.machine.specs.Beside.Run.{Living, Spends, Proceeds, proceeds, good-run}
+use Rattle.machine.specs.Beside.Run.{Living, Spends, Well, Proceeds, proceeds, good-run}
 
-not-damaged : (x : Answer) → Undamaged x → x ≢ No Damaged
-not-damaged x u e = rw e at u
+-- 10 and 11 are not well
+not-damaged : (c : Call) (t : Table) (x : Answer) → Well c t x → x ≢ No Damaged
+not-damaged (Call.New task r len m) t x u e = rw e at u
+not-damaged (Call.Fill task w) t x u e = rw e at u
+not-damaged (Call.FillPointer task r) t x u e = rw e at u
+not-damaged (Call.Load task to from slot) t x u e = rw e at u
+not-damaged (Call.Store task o slot w) t x u e = rw e at u
+not-damaged (Call.StorePointer task o slot r) t x u e = rw e at u
+not-damaged (Call.Move task to from) t x u e = rw e at u
+not-damaged (Call.Clear task r) t x u e = rw e at u
+not-damaged (Call.Same task a b) t x u e = rw e at u
+not-damaged (Call.Put task root r) t x u e = rw e at u
+not-damaged (Call.Get task r root) t x u e = rw e at u
+not-damaged (Call.Step task) t x u e = rw e at u
+not-damaged Call.Report t x u e = rw e at u
 
-not-spent : (x : Answer) → Undamaged x → x ≢ No Exhausted
-not-spent x u e = rw e at u
+pub not-spent : (c : Call) (t : Table) (x : Answer) → Well c t x → x ≢ No Exhausted
+not-spent (Call.New task r len m) t x u e = rw e at u
+not-spent (Call.Fill task w) t x u e = rw e at u
+not-spent (Call.FillPointer task r) t x u e = rw e at u
+not-spent (Call.Load task to from slot) t x u e = rw e at u
+not-spent (Call.Store task o slot w) t x u e = rw e at u
+not-spent (Call.StorePointer task o slot r) t x u e = rw e at u
+not-spent (Call.Move task to from) t x u e = rw e at u
+not-spent (Call.Clear task r) t x u e = rw e at u
+not-spent (Call.Same task a b) t x u e = rw e at u
+not-spent (Call.Put task root r) t x u e = rw e at u
+not-spent (Call.Get task r root) t x u e = rw e at u
+not-spent (Call.Step task) t x u e = rw e at u
+not-spent Call.Report t x u e = rw e at u
 
 module _ (t : Table) (l : Limits) (ws : List ℕ) (accepted : sizesOk l (length ws) ≡ true) where
   pub set-up-good : Good l emptyStore noHistory (setupOf t l ws .out .table) (setupOf t l ws .words)
@@ -52,7 +77,7 @@ module _ (t : Table) (l : Limits) (ws : List ℕ) (accepted : sizesOk l (length 
       where
         on : Proceeds l (beside cs (setupOf t l ws) emptyStore) (historyOf cs (setupOf t l ws) noHistory) c (run cs (setupOf t l ws)) → then c (run cs (setupOf t l ws)) .out .answer ≢ No Damaged
         on (inl h) = λ e. let q : No Exhausted ≡ No Damaged = sym (h .0) ∙ e in let z : _≡_ {A = ℕ} 0 1 = cc in absurd (omega arith)
-        on (inr h) = not-damaged (then c (run cs (setupOf t l ws)) .out .answer) (h .1)
+        on (inr h) = not-damaged c (run cs (setupOf t l ws) .out .table) (then c (run cs (setupOf t l ws)) .out .answer) (h .1)
 
     pub spent-for-room : (c : Call) → then c (run cs (setupOf t l ws)) .out .answer ≡ No Exhausted
         → Spends c (run cs (setupOf t l ws) .out .table) (run cs (setupOf t l ws) .words)
@@ -60,4 +85,4 @@ module _ (t : Table) (l : Limits) (ws : List ℕ) (accepted : sizesOk l (length 
       where
         on : Proceeds l (beside cs (setupOf t l ws) emptyStore) (historyOf cs (setupOf t l ws) noHistory) c (run cs (setupOf t l ws)) → Spends c (run cs (setupOf t l ws) .out .table) (run cs (setupOf t l ws) .words)
         on (inl h) = h .1
-        on (inr h) = absurd (not-spent (then c (run cs (setupOf t l ws)) .out .answer) (h .1) e)
+        on (inr h) = absurd (not-spent c (run cs (setupOf t l ws) .out .table) (then c (run cs (setupOf t l ws)) .out .answer) (h .1) e)

@@ -32,7 +32,7 @@ use Rattle.machine.specs.Beside.Still.{Still}
 use Rattle.machine.specs.Beside.StillSteps.{Filling, still-ended}
 use Rattle.machine.specs.Objects.Base.{off-on}
 use Rattle.machine.specs.Beside.Collecting.{Collecting}
-use Rattle.machine.specs.Beside.Good.{Good, Undamaged, Comes}
+use Rattle.machine.specs.Beside.Good.{Good, Fine, Comes}
 use Rattle.machine.specs.Beside.Glue.{below, entry-of}
 use Rattle.machine.specs.Beside.Finish.{finishes}
 
@@ -69,7 +69,7 @@ module _ {l : Limits} {w : Store} {hy : History} {t : Table} {ws : List ℕ} (g 
       still-ended (g .still) i (below g i ip) (g .objects .tasks i .regs) (g .objects .tasks i .pending) (q .regs) (q .pending) (q .goesTo)
       (filling (g .kept) (g .objects .shape) (g .objects .hd) (g .objects .on) (g .objects .tasks i .pending) (g .inv .entries i .pending))
 
-  pub ends-comes : (before : Place) (X : Type 0) (x : Answer) → Undamaged x → ((after : Place) → stepKinds x before after ≡ Ended ∷ [])
+  pub ends-comes : (before : Place) (X : Type 0) (x : Answer) → Fine t before x → ((after : Place) → stepKinds x before after ≡ Ended ∷ [])
       → jobsIn (holdingOf (g .objects .tasks i .place)) ≡ 0 → withCopy before x (hy .copies) ≡ hy .copies → g .objects .on ≡ true
       → Collecting (g .kept) (g .pa) (moves (g .objects) i (endedEntry (g .objects .tasks i .regs) (g .objects .tasks i .pending)))
       (endedTable t i (t .marks) (taskAt t i .pending)) (withCopies hy (hy .copies))

@@ -36,7 +36,7 @@ use Rattle.machine.specs.History.{Copy, History, withCopy, withCopies}
 use Rattle.machine.specs.Beside.Collecting.{Collecting, Exact}
 use Rattle.machine.specs.Beside.Histories.{as-it-was, off-stays, history-is}
 use Rattle.machine.specs.Beside.Exactly.{counted, exact-of}
-use Rattle.machine.specs.Beside.Good.{Good, Undamaged, Comes}
+use Rattle.machine.specs.Beside.Good.{Good, Fine, Comes}
 
 -- what a due switch-over has seen
 pub due : (u : Table) → switchDue u ≡ true
@@ -61,7 +61,7 @@ still-switches o k = still-shape (switches o .shape) (o .prim) k refl (λ x z m 
 
 module _ {l : Limits} {w : Store} {hy : History} {t : Table} {ws : List ℕ} (g : Good l w hy t ws) (i : ℕ) (before : Place) (X : Type 0) where
   -- the action left the objects o, the words ws′ and the marks m; the store is w′, and cs are the copies since the flip
-  pub finishes : (K : ℕ → Type 0) (pa ra : ℕ → ℕ) (o : State) (ws′ : List ℕ) (m : Marks) (pending : Pending) (x : Answer) (w′ : Store) → Undamaged x
+  pub finishes : (K : ℕ → Type 0) (pa ra : ℕ → ℕ) (o : State) (ws′ : List ℕ) (m : Marks) (pending : Pending) (x : Answer) (w′ : Store) → Fine t before x
       → ((after : Place) → happenAll w i (stepKinds x before after) ≡ w′) → Inv K (t .limits .p) (t .limits .s) o → Agree K pa ra o (endedTable t i m pending) ws′
       → (o .on ≡ false → Home K pa (o .shape) (bottom t) (m .a)) → Still (o .shape) (o .prim) (o .tasks) (o .roots) w′
       → (cs : List Copy) → withCopy before x (hy .copies) ≡ cs → (o .on ≡ true → Collecting K pa o (endedTable t i m pending) (withCopies hy cs))

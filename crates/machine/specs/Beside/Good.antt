@@ -1,5 +1,5 @@
 -- A table and its words that stand for objects, and the store beside them; and what a step must make of them.
-use Prim.Native.Nat.{ℕ, _≤_, _<_}
+use Prim.Native.Nat.{ℕ, _+_, _*_, _≤_, _<_}
 use mathlib.Core.Path.{_≡_, refl, ap, sym, _∙_}
 use mathlib.Core.Logic.{_≢_, _⊎_, inl, inr}
 use mathlib.Core.List.{List, [], _∷_}
@@ -11,6 +11,7 @@ use Rattle.table.specs.declared.Limits.{Limits}
 use Rattle.table.specs.declared.Marks.{Marks}
 use Rattle.table.specs.declared.Pending.{Pending}
 use Rattle.table.specs.declared.Place.{Place}
+use Rattle.table.specs.declared.Place.the-variants.{Idle, New, Asked, FillWrite, FillCopy, StoreWrite, Meet, StoreCopy, Take, Read, Put, Release, Looking, Placing}
 use Rattle.table.specs.declared.Task.{Task}
 use Rattle.table.specs.declared.Table.{Table}
 use Rattle.table.specs.declared.Refusal.{Refusal}
@@ -24,9 +25,10 @@ use Rattle.machine.specs.Objects.Base.{off-on}
 use Rattle.machine.specs.Objects.State.{State}
 use Rattle.machine.specs.Objects.Inv.{Inv}
 use Rattle.machine.specs.Agree.Encode.{atTask}
-use Rattle.machine.specs.Agree.Agree.{Agree, bottom}
+use Rattle.machine.specs.Agree.Agree.{Agree, bottom, end}
 use Rattle.machine.specs.Agree.Home.{Home}
 use Rattle.machine.specs.Agree.Enter.{entered}
+use Rattle.machine.specs.Words.{roomOf}
 use Rattle.machine.specs.Switch.{switchDue}
 use Rattle.machine.specs.History.{Copy, History, withCopy, withCopies, stepHistory}
 use Rattle.machine.specs.Beside.Still.{Still}
@@ -51,7 +53,7 @@ pub record Good (l : Limits) (w : Store) (hy : History) (t : Table) (ws : List �
   pub awake : objects .on ≡ true → switchDue t ≡ false
   pub collected : objects .on ≡ false → Exact hy × (t .marks .copies ≡ length (hy .copies))
 
--- neither refusal 10 nor 11
+-- neither refusal 9 nor 10 nor 11
 abbrev pub Undamaged : Answer → Type 0
 Undamaged Accepted = Unit {0}
 Undamaged Done = Unit {0}
@@ -67,17 +69,53 @@ Undamaged (No NoSlot) = Unit {0}
 Undamaged (No OutOfTurn) = Unit {0}
 Undamaged (No Held) = Unit {0}
 Undamaged (No SlotInStore) = Unit {0}
-Undamaged (No NoRoom) = Unit {0}
+Undamaged (No NoRoom) = ⊥
 Undamaged (No Exhausted) = ⊥
 Undamaged (No Damaged) = ⊥
 
+-- A refusal 9 is a New's that, while collecting, found less room than it needs for its two objects.
+abbrev pub Crowded : Table → Place → Type 0
+Crowded t Idle = ⊥
+Crowded t (New r len m) = (t .on ≡ true) × (roomOf true (t .marks) (end t) < 2 * (len + 2))
+Crowded t (Asked r len m) = ⊥
+Crowded t (FillWrite v) = ⊥
+Crowded t (FillCopy c) = ⊥
+Crowded t (StoreWrite v) = ⊥
+Crowded t (Meet v) = ⊥
+Crowded t (StoreCopy c) = ⊥
+Crowded t (Take n) = ⊥
+Crowded t (Read n x i) = ⊥
+Crowded t (Put n x i c) = ⊥
+Crowded t (Release n x i) = ⊥
+Crowded t (Looking p th) = ⊥
+Crowded t (Placing p th) = ⊥
+
+abbrev pub Fine : Table → Place → Answer → Type 0
+Fine t before Accepted = Unit {0}
+Fine t before Done = Unit {0}
+Fine t before (Value v) = Unit {0}
+Fine t before Moved = Unit {0}
+Fine t before (Wait q) = Unit {0}
+Fine t before (Report on live copies) = Unit {0}
+Fine t before (No WrongLimit) = Unit {0}
+Fine t before (No NoTask) = Unit {0}
+Fine t before (No NoRegister) = Unit {0}
+Fine t before (No NilObject) = Unit {0}
+Fine t before (No NoSlot) = Unit {0}
+Fine t before (No OutOfTurn) = Unit {0}
+Fine t before (No Held) = Unit {0}
+Fine t before (No SlotInStore) = Unit {0}
+Fine t before (No NoRoom) = Crowded t before
+Fine t before (No Exhausted) = ⊥
+Fine t before (No Damaged) = ⊥
+
 -- A step of task i, whose place was `before`, ends as e: the heap is exhausted, for the reason X; or the store that is
--- told the kinds of action stands beside the table again, and the answer is neither 10 nor 11.
+-- told the kinds of action stands beside the table again, and the answer is neither 10 nor 11, and 9 only for want of room.
 abbrev pub Comes : Limits → Store → History → Table → List ℕ → ℕ → Place → Type 0 → Ends → Type 1
 Comes l w hy t ws i before X e =
     ((e .out .answer ≡ No Exhausted) × X)
     ⊎ (Good l (happenAll w i (stepKinds (e .out .answer) before (taskAt (e .out .table) i .place))) (stepHistory t ws before e hy) (e .out .table) (e .words)
-    × Undamaged (e .out .answer))
+    × Fine t before (e .out .answer))
 
 -- the place of an entry just changed
 pub place-entered : (t : Table) (m : Marks) (i : ℕ) (e : Task) → length (t .tasks) ≡ 8 → i < 8 → taskAt (entered t m i e) i ≡ e

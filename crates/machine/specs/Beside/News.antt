@@ -6,7 +6,7 @@ use mathlib.Core.List.{List, [], _∷_}
 use mathlib.Core.Bool.{Bool, true, false}
 use native.Mathlib.Omega.{arith}
 use lib.Dec.{ltb, leb}
-use borrow.Author.Tests.{le-ltb, leb-true}
+use borrow.Author.Tests.{le-ltb, leb-true, leb-false}
 use Rattle.table.specs.declared.Limits.{Limits}
 use Rattle.table.specs.declared.Pending.{Pending}
 use Rattle.table.specs.declared.Pending.the-variants.{Nothing, Making}
@@ -130,7 +130,7 @@ module _ {l : Limits} {w : Store} {hy : History} {t : Table} {ws : List ℕ} (g 
           (finishOf t ws i (t .marks) (taskAt t i .pending) (No (refusal 9))))
       on true e = claims-twice X pe live (leb-true (2 * (len + 2)) (t .marks .top - t .marks .a - t .marks .j) e)
       on false e =
-          ends-comes g i ip (atPlace (g .pa) (g .ra) (New r len m)) X (No (refusal 9)) tt (λ after. refl)
+          ends-comes g i ip (atPlace (g .pa) (g .ra) (New r len m)) X (No (refusal 9)) (g .agree .on ∙ live, leb-false (2 * (len + 2)) (t .marks .top - t .marks .a - t .marks .j) e) (λ after. refl)
           (new-jobs (g .objects .tasks i .place) r len m (inl pe)) refl live
           (collects (g .collecting live) _ _ refl refl (g .collecting live .forgiven) (counts-ends-new (g .inv) live (g .collecting live .counts) i ip r len m pe))
           (new-ends (g .objects) i r len m (g .inv) ip pe)

@@ -62,10 +62,6 @@ no-job : (pl : Place) (n : ℕ) → pl ≡ Take n → jobsIn (holdingOf pl) ≡ 
 unfolding holdingOf
 no-job pl n e = rw e refl
 
-no-claim : (e : Task) (x : ℕ) → e ≡ freshTask → HasClaim e x → ⊥
-unfolding holdingOf
-no-claim e x q h = rw q at h
-
 module _ {l : Limits} {w : Store} {hy : History} {t : Table} {ws : List ℕ} (g : Good l w hy t ws) (i : ℕ) (ip : i < t .limits .p) (X : Type 0) where
   -- while collecting the headers have colours
   colours : g .objects .on ≡ true → Colours (g .kept) (g .objects .shape) (g .objects .snap) (g .objects .hd) (g .objects .prim) (g .objects .rep) (g .objects .has) (g .objects .stack)
@@ -112,23 +108,13 @@ module _ {l : Limits} {w : Store} {hy : History} {t : Table} {ws : List ℕ} (g 
           made = c .made;
           forgiven = upd (c .forgiven) i n;
           counts =
-              counts-ends-empty (g .inv) live (c .counts) i ip n pe es (jobless e)
-              (λ u x q. claimless u x q h);
+              counts-ends-empty (g .inv) live (c .counts) i ip n pe es (jobless e) (h .2);
           same = c .same;
           lived = lived-same (c .lived) (hy .copies);
         }
       where
         jobless : greyOf (t .marks) (end t) (t .tasks) (t .limits .p) ≡ false → t .marks .j ≡ 0
         jobless e = grey-jobs (t .marks) (end t) (t .tasks) (t .limits .p) e
-
-        claimless : (u x : ℕ) → HasClaim (g .objects .tasks u) x
-            → (g .objects .stack ≡ []) × ((u : ℕ) → u < t .limits .p → jobsIn (holdingOf (g .objects .tasks u .place)) ≡ 0)
-            × ((u x : ℕ) → u < t .limits .p → HasClaim (g .objects .tasks u) x → ⊥) → ⊥
-        claimless u x q h = on (ltb u (t .limits .p)) refl
-          where
-            on : (b : Bool) → ltb u (t .limits .p) ≡ b → ⊥
-            on true b = h .2 u x (ltb-true u (t .limits .p) b) q
-            on false b = no-claim (g .objects .tasks u) x (g .inv .owners .beyond u (ltb-false u (t .limits .p) b)) q
 
     -- nothing on the stack: the payment ends if nothing is grey, else it waits
     finds-nothing : g .objects .stack ≡ [] → Comes l w hy t ws i (atPlace (g .pa) (g .ra) (Take n)) X (emptyTakeOf t ws i)

@@ -2,7 +2,7 @@
 use Prim.Native.Nat.{ℕ, _+_, _<_}
 use mathlib.Core.Path.{_≡_}
 use mathlib.Core.List.{List}
-use mathlib.Core.Bool.{Bool, true}
+use mathlib.Core.Bool.{Bool, true, false}
 use lib.Dec.{eqb}
 use Rattle.table.specs.declared.Place.{Place}
 use Rattle.table.specs.declared.Place.the-variants.{Idle, New, Asked, FillWrite, FillCopy, StoreWrite, Meet, StoreCopy, Take, Read, Put, Release, Looking, Placing}
@@ -22,8 +22,8 @@ placeNeeds len = pick (eqb len 0) (len + 2) (len + 3)
 -- flip of a New stopped in one of its passes
 abbrev pub WantsRoom : Table → List ℕ → Place → Type 0
 WantsRoom t ws Idle = ⊥
-WantsRoom t ws (New r len m) = (passesOf t ws .pass ≡ Stopped (refusal 10))
-WantsRoom t ws (Asked r len m) = (passesOf t ws .pass ≡ Stopped (refusal 10))
+WantsRoom t ws (New r len m) = (t .on ≡ false) × (passesOf t ws .pass ≡ Stopped (refusal 10))
+WantsRoom t ws (Asked r len m) = (t .on ≡ false) × (passesOf t ws .pass ≡ Stopped (refusal 10))
 WantsRoom t ws (FillWrite v) = ⊥
 WantsRoom t ws (FillCopy c) = ⊥
 WantsRoom t ws (StoreWrite v) = ⊥

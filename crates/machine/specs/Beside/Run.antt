@@ -28,7 +28,7 @@ use Rattle.machine.specs.Agree.Encode.{atPlace}
 use Rattle.machine.specs.Agree.Gates.{call-gate}
 use Rattle.machine.specs.Beside.Room.{WantsRoom}
 use Rattle.machine.specs.Beside.Histories.{as-it-was, no-copy, history-is}
-use Rattle.machine.specs.Beside.Good.{Good, Undamaged, Comes}
+use Rattle.machine.specs.Beside.Good.{Good, Undamaged, Fine, Comes}
 use Rattle.machine.specs.Beside.Glue.{entry-of}
 use Rattle.machine.specs.Beside.Steps.{step-at}
 use Rattle.machine.specs.Beside.Calls.{NotStep, call-keeps, made-none}
@@ -49,11 +49,27 @@ Spends (Call.Get task r root) t ws = ⊥
 Spends (Call.Step task) t ws = WantsRoom t ws (taskAt t task .place)
 Spends Call.Report t ws = ⊥
 
+-- the answer is neither 10 nor 11, and 9 only comes to a step of a New for want of room
+abbrev pub Well : Call → Table → Answer → Type 0
+Well (Call.New task r len m) t x = Undamaged x
+Well (Call.Fill task w) t x = Undamaged x
+Well (Call.FillPointer task r) t x = Undamaged x
+Well (Call.Load task to from slot) t x = Undamaged x
+Well (Call.Store task o slot w) t x = Undamaged x
+Well (Call.StorePointer task o slot r) t x = Undamaged x
+Well (Call.Move task to from) t x = Undamaged x
+Well (Call.Clear task r) t x = Undamaged x
+Well (Call.Same task a b) t x = Undamaged x
+Well (Call.Put task root r) t x = Undamaged x
+Well (Call.Get task r root) t x = Undamaged x
+Well (Call.Step task) t x = Fine t (taskAt t task .place) x
+Well Call.Report t x = Undamaged x
+
 -- what one call more makes of table and store
 abbrev pub Proceeds : Limits → Store → History → Call → Ends → Type 1
 Proceeds l w hy c e =
     ((then c e .out .answer ≡ No Exhausted) × Spends c (e .out .table) (e .words))
-    ⊎ (Good l (follows w c e (then c e)) (historyAfter c e (then c e) hy) (then c e .out .table) (then c e .words) × Undamaged (then c e .out .answer))
+    ⊎ (Good l (follows w c e (then c e)) (historyAfter c e (then c e) hy) (then c e .out .table) (then c e .words) × Well c (e .out .table) (then c e .out .answer))
 
 -- the store is told of a step by its kinds alone
 told-step : (w : Store) (i : ℕ) (x : Answer) (ks : List Kind) → told w (Call.Step i) x ks ≡ happenAll w i ks

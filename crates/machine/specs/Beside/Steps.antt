@@ -171,13 +171,13 @@ module _ {l : Limits} {w : Store} {hy : History} {t : Table} {ws : List ℕ} (g 
   unfolding onStepOf offStepOf
   at-new r len m pe =
       acts (New r len m) pe tt (WantsRoom t ws (New r len m)) (λ on. new-on-comes g i ip r len m (WantsRoom t ws (New r len m)) pe on)
-      (λ off. new-off-comes g i ip r len m (inl pe) off (WantsRoom t ws (New r len m)) (New r len m) refl (λ after q. rw q refl) (λ f. f) refl)
+      (λ off. new-off-comes g i ip r len m (inl pe) off (WantsRoom t ws (New r len m)) (New r len m) refl (λ after q. rw q refl) (λ f. (g .agree .on ∙ off, f)) refl)
 
   at-asked : (r len m : ℕ) → g .objects .tasks i .place ≡ Asked r len m → Comes l w hy t ws i (Asked r len m) (WantsRoom t ws (Asked r len m)) (taskStepOf t ws i)
   unfolding onStepOf offStepOf
   at-asked r len m pe =
       acts (Asked r len m) pe tt (WantsRoom t ws (Asked r len m)) (λ on. absurd (off-on (sym (at-place (g .inv) i (Asked r len m) pe .0) ∙ on)))
-      (λ off. new-off-comes g i ip r len m (inr pe) off (WantsRoom t ws (Asked r len m)) (Asked r len m) refl (λ after q. refl) (λ f. f) refl)
+      (λ off. new-off-comes g i ip r len m (inr pe) off (WantsRoom t ws (Asked r len m)) (Asked r len m) refl (λ after q. refl) (λ f. (g .agree .on ∙ off, f)) refl)
 
   at-placing : (q : Primary) (th : Then) → g .objects .tasks i .place ≡ Placing q th
       → Comes l w hy t ws i (atPlace (g .pa) (g .ra) (Placing q th)) (WantsRoom t ws (atPlace (g .pa) (g .ra) (Placing q th))) (taskStepOf t ws i)

@@ -4,6 +4,7 @@ use mathlib.Core.Path.{_≡_, refl, sym, _∙_}
 use mathlib.Core.Logic.{_≢_}
 use mathlib.Core.List.{List, []}
 use mathlib.Core.Bool.{Bool, true, false}
+use native.Mathlib.Decide.{decLt}
 use native.Mathlib.Nat.{mul-le-mul-left}
 use native.Mathlib.Omega.{arith}
 use lib.ListN.{set}
@@ -20,6 +21,7 @@ use Rattle.table.specs.declared.Task.{Task}
 use Rattle.machine.specs.Basics.{pick}
 use Rattle.machine.specs.Entries.{entry}
 use Rattle.machine.specs.Tasks.{holdingOf}
+use Rattle.machine.specs.Setup.{freshTask}
 use Rattle.machine.specs.Switch.{endedEntry}
 use Rattle.machine.specs.History.{Copy}
 use Rattle.machine.specs.Objects.Base.{clash, upd, upd-same, upd-other, upd-all, sumTo, sumTo-at}
@@ -59,6 +61,10 @@ ended-owes regs (Making x r len f) = by (eqb f len) refl
 pub ended-claims : (regs : List Primary) (d : Pending) (x : ℕ) → HasClaim (endedEntry regs d) x → ⊥
 unfolding holdingOf
 ended-claims regs d x h = rw (ended-owes regs d .0) at h
+
+fresh-claims : (x : ℕ) → HasClaim freshTask x → ⊥
+unfolding holdingOf
+fresh-claims x q = q
 
 none : (n : ℕ) → (0 < n → ⊥) → n ≡ 0
 none zero h = refl
@@ -126,7 +132,7 @@ module _ {K : ℕ → Type 0} {k p s : ℕ} {o : State} {base a j copies : ℕ} 
       (λ x q. absurd (ended-claims (o .tasks t .regs) (o .tasks t .pending) x q)) (λ h. z .0)
 
   -- a payment finds nothing grey: what was left of it is forgiven
-  pub counts-ends-empty : (n : ℕ) → o .tasks t .place ≡ Take n → o .stack ≡ [] → j ≡ 0 → ((u x : ℕ) → HasClaim (o .tasks u) x → ⊥)
+  pub counts-ends-empty : (n : ℕ) → o .tasks t .place ≡ Take n → o .stack ≡ [] → j ≡ 0 → ((u x : ℕ) → u < p → HasClaim (o .tasks u) x → ⊥)
       → Counts k p s (o .shape) (o .snap) (o .hd) (o .stack) (upd (o .tasks) t (endedEntry (o .tasks t .regs) (o .tasks t .pending))) base a j copies made (upd forgiven t n)
   counts-ends-empty n ep empty jobless free = record {
     words = c .words;
@@ -142,13 +148,17 @@ module _ {K : ℕ → Type 0} {k p s : ℕ} {o : State} {base a j copies : ℕ} 
     forgave = λ u h. (
       empty,
       jobless,
-      λ w x. upd-all (λ w e. HasClaim e x → ⊥) (o .tasks) t e′ (ended-claims (o .tasks t .regs) (o .tasks t .pending) x) (λ w d. free w x) w,
+      λ w x. upd-all (λ w e. HasClaim e x → ⊥) (o .tasks) t e′ (ended-claims (o .tasks t .regs) (o .tasks t .pending) x) (λ w d. claimless w x (decLt w p)) w,
       upd-all (λ u e. 0 < upd forgiven t n u → e .place ≡ Idle) (o .tasks) t e′ (λ h. z .0) (λ u d h. c .forgave u (rw (upd-other forgiven t n u d) at h) .3) u h,
     );
   }
     where
       e′ : Task
       e′ = endedEntry (o .tasks t .regs) (o .tasks t .pending)
+
+      claimless : (u x : ℕ) → Dec (u < p) → HasClaim (o .tasks u) x → ⊥
+      claimless u x (yes m) q = free u x m q
+      claimless u x (no m) q = fresh-claims x (rw (v .owners .beyond u (omega (arith, m))) at q)
 
       z : (e′ .place ≡ Idle) × (unfilled (e′ .pending) ≡ unfilled (o .tasks t .pending))
       z = ended-owes (o .tasks t .regs) (o .tasks t .pending)

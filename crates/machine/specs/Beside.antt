@@ -47,3 +47,6 @@ pub mod Awake
 pub mod Collects
 pub mod RoomLaws
 pub mod Enough
+pub mod FlipFits
+pub mod Rooms
+pub mod Demand3

@@ -101,7 +101,32 @@ historyAfter (Call.Get task r root) e f h = h
 historyAfter (Call.Step task) e f h = stepHistory (e .out .table) (e .words) (taskAt (e .out .table) task .place) f h
 historyAfter Call.Report e f h = h
 
+-- the copy that a call completes
+abbrev pub copied : Call → Ends → Ends → List Copy → List Copy
+copied (Call.New task r len m) e f cs = cs
+copied (Call.Fill task w) e f cs = cs
+copied (Call.FillPointer task r) e f cs = cs
+copied (Call.Load task to from slot) e f cs = cs
+copied (Call.Store task o slot w) e f cs = cs
+copied (Call.StorePointer task o slot r) e f cs = cs
+copied (Call.Move task to from) e f cs = cs
+copied (Call.Clear task r) e f cs = cs
+copied (Call.Same task a b) e f cs = cs
+copied (Call.Put task root r) e f cs = cs
+copied (Call.Get task r root) e f cs = cs
+copied (Call.Step task) e f cs = withCopy (taskAt (e .out .table) task .place) (f .out .answer) cs
+copied Call.Report e f cs = cs
+
 -- over a run
 unfoldable pub historyOf : List Call → Ends → History → History
 historyOf [] e h = h
 historyOf (c ∷ cs) e h = historyOf cs (then c e) (historyAfter c e (then c e) h)
+
+-- the copies that a run's releases complete, and that none of its steps is a flip
+unfoldable pub copiesOf : List Call → Ends → List Copy → List Copy
+copiesOf [] e cs = cs
+copiesOf (c ∷ cs) e ds = copiesOf cs (then c e) (copied c e (then c e) ds)
+
+abbrev pub NoFlip : List Call → Ends → Type 0
+NoFlip [] e = Unit {0}
+NoFlip (c ∷ cs) e = (isFlip (e .out .table .on) (then c e .out .table .on) ≡ false) × NoFlip cs (then c e)

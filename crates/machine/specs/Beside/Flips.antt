@@ -210,7 +210,7 @@ module _ {l : Limits} {w : Store} {hy : History} {t : Table} {ws : List ℕ} (g 
 
   -- the step of a New while off
   pub new-off-comes : (X : Type 0) (before : Place) → doneKinds before ≡ Made ∷ Ended ∷ [] → ((after : Place) → after ≡ New r len m → movedKinds before after ≡ [])
-      → (passesOf t ws .pass ≡ Stopped (refusal 10) → X) → withCopy before Done (hy .copies) ≡ hy .copies
+      → (seekOf (t .tasks) (t .limits .p) (Blocker i) ≡ Nobody → passesOf t ws .pass ≡ Stopped (refusal 10) → X) → withCopy before Done (hy .copies) ≡ hy .copies
       → Comes l w hy t ws i before X (newOffOf t ws i r len m)
   unfolding newOffOf roomFor
   new-off-comes X before dones kinds f quiet =
@@ -223,7 +223,7 @@ module _ {l : Limits} {w : Store} {hy : History} {t : Table} {ws : List ℕ} (g 
 
       ask : (x : Found) → seekOf (t .tasks) (t .limits .p) (Blocker i) ≡ x → Comes l w hy t ws i before X (askOr t ws i (Asked r len m) x)
       ask (At q) e = asks-comes X before q
-      ask Nobody e = flip-comes e X before kinds f
+      ask Nobody e = flip-comes e X before kinds (f e)
 
       on : (b : Bool) → leb (len + 2) (end t - t .marks .a) ≡ b
           → Comes l w hy t ws i before X

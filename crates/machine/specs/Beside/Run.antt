@@ -46,7 +46,7 @@ Spends (Call.Clear task r) t ws = ⊥
 Spends (Call.Same task a b) t ws = ⊥
 Spends (Call.Put task root r) t ws = ⊥
 Spends (Call.Get task r root) t ws = ⊥
-Spends (Call.Step task) t ws = WantsRoom t ws (taskAt t task .place)
+Spends (Call.Step task) t ws = WantsRoom t ws task (taskAt t task .place)
 Spends Call.Report t ws = ⊥
 
 -- the answer is neither 10 nor 11, and 9 only comes to a step of a New for want of room
@@ -83,16 +83,16 @@ told-step w i (No x) ks = refl
 
 module _ {l : Limits} {w : Store} {hy : History} {t : Table} {ws : List ℕ} (g : Good l w hy t ws) (i : ℕ) where
   -- a step of one of the tasks, and of none
-  task-comes : i < t .limits .p → Comes l w hy t ws i (taskAt t i .place) (WantsRoom t ws (taskAt t i .place)) (taskStepOf t ws i)
+  task-comes : i < t .limits .p → Comes l w hy t ws i (taskAt t i .place) (WantsRoom t ws i (taskAt t i .place)) (taskStepOf t ws i)
   task-comes ip =
       rw (ap (λ (e : Task). e .place) (entry-of g i ip)) (step-at g i ip (g .objects .tasks i .place) refl)
 
-  step-comes : Comes l w hy t ws i (taskAt t i .place) (WantsRoom t ws (taskAt t i .place)) (stepOf t ws i)
+  step-comes : Comes l w hy t ws i (taskAt t i .place) (WantsRoom t ws i (taskAt t i .place)) (stepOf t ws i)
   unfolding stepOf happenAll
   step-comes = rw (call-gate (g .agree) (g .long) i) (on (ltb i (t .limits .p)) refl)
     where
       on : (b : Bool) → ltb i (t .limits .p) ≡ b
-          → Comes l w hy t ws i (taskAt t i .place) (WantsRoom t ws (taskAt t i .place)) (stepThrough (pick b Open (Shut (refusal 2))) t ws (taskStepOf t ws i))
+          → Comes l w hy t ws i (taskAt t i .place) (WantsRoom t ws i (taskAt t i .place)) (stepThrough (pick b Open (Shut (refusal 2))) t ws (taskStepOf t ws i))
       on true e = task-comes (ltb-true i (t .limits .p) e)
       on false e =
           inr (rw (history-is t ws (taskAt t i .place) (ends (no t 2) ws) hy (hy .copies) (as-it-was (t .on)) (no-copy (taskAt t i .place) (no t 2 .answer) (hy .copies) refl)) g, tt)
@@ -101,7 +101,7 @@ module _ {l : Limits} {w : Store} {hy : History} {t : Table} {ws : List ℕ} (g 
 step-proceeds : (l : Limits) (w : Store) (hy : History) (i : ℕ) (e : Ends) → Good l w hy (e .out .table) (e .words) → Proceeds l w hy (Call.Step i) e
 step-proceeds l w hy i e g = on (step-comes g i)
   where
-    on : Comes l w hy (e .out .table) (e .words) i (taskAt (e .out .table) i .place) (WantsRoom (e .out .table) (e .words) (taskAt (e .out .table) i .place)) (stepOf (e .out .table) (e .words) i)
+    on : Comes l w hy (e .out .table) (e .words) i (taskAt (e .out .table) i .place) (WantsRoom (e .out .table) (e .words) i (taskAt (e .out .table) i .place)) (stepOf (e .out .table) (e .words) i)
         → Proceeds l w hy (Call.Step i) e
     on (inl h) = inl h
     on (inr h) =

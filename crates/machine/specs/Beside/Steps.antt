@@ -167,25 +167,25 @@ module _ {l : Limits} {w : Store} {hy : History} {t : Table} {ws : List ℕ} (g 
       (with-store _ (g .objects .tasks i .storing) refl (at-place (g .inv) i (StoreCopy c) pe .1)
       (λ x j se. rw (ap (atStoring (g .pa)) se) (store-copy-comes g i ip x j se ⊥ c pe)))
 
-  at-new : (r len m : ℕ) → g .objects .tasks i .place ≡ New r len m → Comes l w hy t ws i (New r len m) (WantsRoom t ws (New r len m)) (taskStepOf t ws i)
+  at-new : (r len m : ℕ) → g .objects .tasks i .place ≡ New r len m → Comes l w hy t ws i (New r len m) (WantsRoom t ws i (New r len m)) (taskStepOf t ws i)
   unfolding onStepOf offStepOf
   at-new r len m pe =
-      acts (New r len m) pe tt (WantsRoom t ws (New r len m)) (λ on. new-on-comes g i ip r len m (WantsRoom t ws (New r len m)) pe on)
-      (λ off. new-off-comes g i ip r len m (inl pe) off (WantsRoom t ws (New r len m)) (New r len m) refl (λ after q. rw q refl) (λ f. (g .agree .on ∙ off, f)) refl)
+      acts (New r len m) pe tt (WantsRoom t ws i (New r len m)) (λ on. new-on-comes g i ip r len m (WantsRoom t ws i (New r len m)) pe on)
+      (λ off. new-off-comes g i ip r len m (inl pe) off (WantsRoom t ws i (New r len m)) (New r len m) refl (λ after q. rw q refl) (λ none f. (g .agree .on ∙ off, none, f)) refl)
 
-  at-asked : (r len m : ℕ) → g .objects .tasks i .place ≡ Asked r len m → Comes l w hy t ws i (Asked r len m) (WantsRoom t ws (Asked r len m)) (taskStepOf t ws i)
+  at-asked : (r len m : ℕ) → g .objects .tasks i .place ≡ Asked r len m → Comes l w hy t ws i (Asked r len m) (WantsRoom t ws i (Asked r len m)) (taskStepOf t ws i)
   unfolding onStepOf offStepOf
   at-asked r len m pe =
-      acts (Asked r len m) pe tt (WantsRoom t ws (Asked r len m)) (λ on. absurd (off-on (sym (at-place (g .inv) i (Asked r len m) pe .0) ∙ on)))
-      (λ off. new-off-comes g i ip r len m (inr pe) off (WantsRoom t ws (Asked r len m)) (Asked r len m) refl (λ after q. refl) (λ f. (g .agree .on ∙ off, f)) refl)
+      acts (Asked r len m) pe tt (WantsRoom t ws i (Asked r len m)) (λ on. absurd (off-on (sym (at-place (g .inv) i (Asked r len m) pe .0) ∙ on)))
+      (λ off. new-off-comes g i ip r len m (inr pe) off (WantsRoom t ws i (Asked r len m)) (Asked r len m) refl (λ after q. refl) (λ none f. (g .agree .on ∙ off, none, f)) refl)
 
   at-placing : (q : Primary) (th : Then) → g .objects .tasks i .place ≡ Placing q th
-      → Comes l w hy t ws i (atPlace (g .pa) (g .ra) (Placing q th)) (WantsRoom t ws (atPlace (g .pa) (g .ra) (Placing q th))) (taskStepOf t ws i)
+      → Comes l w hy t ws i (atPlace (g .pa) (g .ra) (Placing q th)) (WantsRoom t ws i (atPlace (g .pa) (g .ra) (Placing q th))) (taskStepOf t ws i)
   unfolding onStepOf
   at-placing q th pe =
       let h = at-place (g .inv) i (Placing q th) pe in
-      only-on (Placing q th) pe tt (WantsRoom t ws (atPlace (g .pa) (g .ra) (Placing q th))) (h .0)
-      (place-comes g i ip q th (WantsRoom t ws (atPlace (g .pa) (g .ra) (Placing q th))) pe
+      only-on (Placing q th) pe tt (WantsRoom t ws i (atPlace (g .pa) (g .ra) (Placing q th))) (h .0)
+      (place-comes g i ip q th (WantsRoom t ws i (atPlace (g .pa) (g .ra) (Placing q th))) pe
       (λ b. (
         g .objects .shape .len (q .0),
         g .objects .shape .ptr (q .0),
@@ -194,7 +194,7 @@ module _ {l : Limits} {w : Store} {hy : History} {t : Table} {ws : List ℕ} (g 
       )))
 
   pub step-at : (pl : Place) → g .objects .tasks i .place ≡ pl
-      → Comes l w hy t ws i (atPlace (g .pa) (g .ra) pl) (WantsRoom t ws (atPlace (g .pa) (g .ra) pl)) (taskStepOf t ws i)
+      → Comes l w hy t ws i (atPlace (g .pa) (g .ra) pl) (WantsRoom t ws i (atPlace (g .pa) (g .ra) pl)) (taskStepOf t ws i)
   unfolding onStepOf
   step-at Idle pe = idle-step pe
   step-at (New r len m) pe = at-new r len m pe

@@ -18,6 +18,7 @@ use Rattle.table.specs.declared.Refusal.the-variants.{Held}
 use Rattle.table.specs.declared.Gate.the-variants.{Open, Shut}
 use Rattle.table.specs.declared.Answer.the-variants.{Accepted, No}
 use Rattle.table.specs.declared.Outcome.{Outcome}
+use Rattle.machine.specs.History.{History}
 use Rattle.machine.specs.Basics.{pick}
 use Rattle.machine.specs.Numbers.{refusal}
 use Rattle.machine.specs.Words.{objectOf}
@@ -97,7 +98,7 @@ module _ (t : Table) where
           (λ a. store-slot ws task x slot v (objectOf ws (t .limits .s) x))
 
 -- behind the gate, whose refusals are 2 and 3
-module _ {l : Limits} {w : Store} {t : Table} {ws : List ℕ} (g : Good l w t ws) (task : ℕ) where
+module _ {l : Limits} {w : Store} {hy : History} {t : Table} {ws : List ℕ} (g : Good l w hy t ws) (task : ℕ) where
   gated : (o : Outcome) → Right t o → Right t (through (callGate t ws task) t o)
   gated o r = rw (call-gate (g .agree) (g .long) task) (on (ltb task (t .limits .p)))
     where
@@ -130,7 +131,7 @@ Begins (Call.Get task r root) = ⊥
 Begins (Call.Step task) = ⊥
 Begins Call.Report = ⊥
 
-module _ {l : Limits} {w : Store} {t : Table} {ws : List ℕ} (g : Good l w t ws) where
+module _ {l : Limits} {w : Store} {hy : History} {t : Table} {ws : List ℕ} (g : Good l w hy t ws) where
   new-right : (task r len m : ℕ) → Right t (beginNewOf t ws task r len m)
   unfolding beginNewOf
   new-right task r len m =

@@ -29,6 +29,7 @@ use Rattle.table.specs.declared.Gate.the-variants.{Open, Shut}
 use Rattle.table.specs.declared.Answer.{Answer}
 use Rattle.table.specs.declared.Answer.the-variants.{Done, Moved, No}
 use Rattle.table.specs.declared.Outcome.{Outcome}
+use Rattle.machine.specs.History.{History}
 use Rattle.machine.specs.Basics.{pick, allOf}
 use Rattle.machine.specs.Numbers.{refusal}
 use Rattle.machine.specs.Words.{primary, lookOf, copyingOf, roomFor}
@@ -114,7 +115,7 @@ module _ (t : Table) (i : ℕ) (G : Type 0) where
   endless (Waits w) ws h e = waited w ws e
   endless (Fails x) ws h e = refusal-done x e
 
-module _ {l : Limits} {w : Store} {t : Table} {ws : List ℕ} (g : Good l w t ws) (i n : ℕ) (pe : taskAt t i .place ≡ Take n) where
+module _ {l : Limits} {w : Store} {hy : History} {t : Table} {ws : List ℕ} (g : Good l w hy t ws) (i n : ℕ) (pe : taskAt t i .place ≡ Take n) where
   take-shows : Shows Done (NothingGrey t) (takeStepOf t ws i n)
   unfolding takeStepOf emptyTakeOf
   take-shows =
@@ -181,7 +182,7 @@ module _ (t : Table) (ws : List ℕ) (i r len m : ℕ) where
   flips-for-room off (inl e) = by-step t ws i Moved (NoneLeft t len) (λ y f h. unmoved h) unmoved unmoved (New r len m) e (λ f. off-on (sym off ∙ f)) (λ f. off-shows)
   flips-for-room off (inr e) = by-step t ws i Moved (NoneLeft t len) (λ y f h. unmoved h) unmoved unmoved (Asked r len m) e (λ f. off-on (sym off ∙ f)) (λ f. off-shows)
 
-  pub nine-for-room : {l : Limits} {w : Store} → Good l w t ws → t .on ≡ true → taskAt t i .place ≡ New r len m → stepOf t ws i .out .answer ≡ No NoRoom → TooFull t len
+  pub nine-for-room : {l : Limits} {w : Store} {hy : History} → Good l w hy t ws → t .on ≡ true → taskAt t i .place ≡ New r len m → stepOf t ws i .out .answer ≡ No NoRoom → TooFull t len
   unfolding onStepOf
   nine-for-room g on e =
       by-step t ws i (No NoRoom) (TooFull t len) (λ y f h. shut (ltb i (t .limits .p)) y (sym (call-gate (g .agree) (g .long) i) ∙ f) h)

@@ -29,12 +29,15 @@ pub mod Others
 pub mod Moment
 pub mod OneStep
 pub mod SlotsStay
+pub mod Busy
+pub mod Waiting
 pub mod Flips
 pub mod Room
 pub mod Steps
 pub mod Start
 pub mod Run
 pub mod Demand2
+pub mod Before
 pub mod Collecting
 pub mod Histories
 pub mod Stands

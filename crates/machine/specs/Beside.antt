@@ -34,6 +34,8 @@ pub mod Others
 pub mod Moment
 pub mod OneStep
 pub mod SlotsStay
+pub mod Busy
+pub mod Waiting
 pub mod Flips
 pub mod Room
 pub mod Steps
@@ -41,6 +43,7 @@ pub mod Start
 pub mod Run
 pub mod Demand2
 pub mod Exact
+pub mod Before
 pub mod Collecting
 pub mod Histories
 pub mod Stands

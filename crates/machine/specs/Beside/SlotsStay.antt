@@ -103,7 +103,7 @@ ended-rests o th =
     pick-all (λ (q : Owner). q .doing ≡ resting) (eqb (o .pending) 0) _ _ (λ e. refl)
     (λ e. pick-all (λ (q : Owner). q .doing ≡ resting) (eqb (length (th .slots)) (th .len)) _ _ (λ f. refl) (λ f. refl))
 
-rests-after : (s : Store) (i : ℕ) → ownerAt (happens s i Ended) i .doing ≡ resting
+pub rests-after : (s : Store) (i : ℕ) → ownerAt (happens s i Ended) i .doing ≡ resting
 rests-after s i = on (decLt i (length (s .owners)))
   where
     o : Owner
@@ -114,19 +114,19 @@ rests-after s i = on (decLt i (length (s .owners)))
     on (no h) =
         rw (set-out (s .owners) i o (omega (arith, h)), List·getD-eq-default (s .owners) (owner [] 0 0 resting) {n = i} (omega (arith, h)))
 
-made-doing : (s : Store) (i : ℕ) (d : Doing) → ownerAt (makes s i d) i .doing ≡ ownerAt s i .doing
+pub made-doing : (s : Store) (i : ℕ) (d : Doing) → ownerAt (makes s i d) i .doing ≡ ownerAt s i .doing
 made-doing s i resting = refl
 made-doing s i (making r len m) = owner-doing s i _ refl
 made-doing s i (filling v) = refl
 made-doing s i (storing y k v) = refl
 
-filled-doing : (s : Store) (i : ℕ) (d : Doing) → ownerAt (fills s i d) i .doing ≡ ownerAt s i .doing
+pub filled-doing : (s : Store) (i : ℕ) (d : Doing) → ownerAt (fills s i d) i .doing ≡ ownerAt s i .doing
 filled-doing s i resting = refl
 filled-doing s i (making r len m) = refl
 filled-doing s i (filling v) = refl
 filled-doing s i (storing y k v) = refl
 
-written-doing : (s : Store) (i : ℕ) (d : Doing) → ownerAt (puts s i d) i .doing ≡ ownerAt s i .doing
+pub written-doing : (s : Store) (i : ℕ) (d : Doing) → ownerAt (puts s i d) i .doing ≡ ownerAt s i .doing
 written-doing s i resting = refl
 written-doing s i (making r len m) = refl
 written-doing s i (filling v) = refl
@@ -211,7 +211,7 @@ told-things s c (Wait q) = refl
 told-things s c (Report on live copies) = refl
 told-things s c (No x) = refl
 
-told-step : (s : Store) (i : ℕ) (x : Answer) (ks : List Kind) → told s (Call.Step i) x ks ≡ happenAll s i ks
+pub told-step : (s : Store) (i : ℕ) (x : Answer) (ks : List Kind) → told s (Call.Step i) x ks ≡ happenAll s i ks
 told-step s i Accepted ks = refl
 told-step s i Done ks = refl
 told-step s i (Value v) ks = refl

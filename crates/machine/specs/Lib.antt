@@ -34,3 +34,4 @@ pub mod Live
 pub mod History
 pub mod Beside
 pub mod Promises
+pub mod PromisesRun

@@ -35,3 +35,4 @@ pub mod History
 pub mod Beside
 pub mod Promises
 pub mod RoomRuns
+pub mod PromisesRun

@@ -38,6 +38,9 @@ pub mod Start
 pub mod Run
 pub mod Demand2
 pub mod Before
+pub mod Stored
+pub mod StoredRun
+pub mod Named
 pub mod Collecting
 pub mod Histories
 pub mod Stands

@@ -44,6 +44,9 @@ pub mod Run
 pub mod Demand2
 pub mod Exact
 pub mod Before
+pub mod Stored
+pub mod StoredRun
+pub mod Named
 pub mod Collecting
 pub mod Histories
 pub mod Stands

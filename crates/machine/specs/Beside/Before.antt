@@ -36,7 +36,7 @@ use Rattle.machine.specs.Beside.Waiting.{storer-in, slot-own, slot-there
 by-task : (c : Call) (e : Ends) → writtenIn (taskOf c) c e ≡ writes (kindsOf c e)
 by-task c e = rw (eq-eqb (taskOf c) (taskOf c) refl)
 
--- a call that writes for task i is a step of it, and its Store waited
+-- nothing is written for a task whose Store does not wait
 writes-waits : (i : ℕ) (c : Call) (e : Ends) → i < length (e .out .table .tasks) → waits (taskAt (e .out .table) i .place) ≡ 0 → writtenIn i c e ≡ 0
 writes-waits i c e b z = on (step-of i c e)
   where
@@ -95,11 +95,11 @@ module _ {l : Limits} {w : Store} {hy : History} (e : Ends) (g : Good l w hy (e 
       → ownerAt (follows w c e (then c e)) i .doing ≡ storing x j v
   begun-still c none g′ = on (ℕ-discrete i (taskOf c)) (told-or w c e)
     where
-      by : i ≡ taskOf c → follows w c e (then c e) ≡ happenAll w i (kindsOf c e)
+      by : follows w c e (then c e) ≡ happenAll w i (kindsOf c e)
           → (ownerAt (happenAll w i (kindsOf c e)) i .doing ≡ ownerAt w i .doing) ⊎ (ownerAt (happenAll w i (kindsOf c e)) i .doing ≡ resting)
           → ownerAt (follows w c e (then c e)) i .doing ≡ storing x j v
-      by d h (inl q) = ap (λ (s : Store). ownerAt s i .doing) h ∙ q ∙ begun
-      by d h (inr q) =
+      by h (inl q) = ap (λ (s : Store). ownerAt s i .doing) h ∙ q ∙ begun
+      by h (inr q) =
           absurd (waits-awake g′ i (storer-in g i x j v begun) (waits-still c none) (ap (λ (s : Store). ownerAt s i .doing) h ∙ q))
 
       on : Dec (i ≡ taskOf c)
@@ -107,7 +107,7 @@ module _ {l : Limits} {w : Store} {hy : History} (e : Ends) (g : Good l w hy (e 
           ⊎ (NotStep c × (follows w c e (then c e) ≡ told w c (then c e .out .answer) []))
           → ownerAt (follows w c e (then c e)) i .doing ≡ storing x j v
       on (no d) h = rw (others-still w c e (then c e) i d) begun
-      on (yes d) (inl h) = by d (h .1 ∙ ap (λ (n : ℕ). happenAll w n (kindsOf c e)) (sym d)) (same-or-rests (kindsOf c e) w i)
+      on (yes d) (inl h) = by (h .1 ∙ ap (λ (n : ℕ). happenAll w n (kindsOf c e)) (sym d)) (same-or-rests (kindsOf c e) w i)
       on (yes d) (inr h) =
           ap (λ (s : Store). ownerAt s i .doing) (h .1 ∙ busy-leaves w c (e .out .table) (e .words) (h .0) (waits-busy g (taskOf c) (rw d at waiting))) ∙ begun
 

@@ -4,21 +4,22 @@
 -- there), and a list cs of calls by any tasks with any arguments. It is living as long as none of its calls answered 10.
 use Prim.Native.Nat.{ℕ, _+_, _≤_, _<_}
 use mathlib.Core.Path.{_≡_}
-use mathlib.Core.Logic.{_≢_}
-use mathlib.Core.List.{List, []}
+use mathlib.Core.Logic.{_≢_, _⊎_}
+use mathlib.Core.List.{List, [], _∷_, _++_}
 use mathlib.Core.Bool.{true, false}
 use lib.ListN.{length}
 use Rattle.table.specs.declared.Limits.{Limits}
 use Rattle.table.specs.declared.Table.{Table}
-use Rattle.table.specs.declared.Refusal.the-variants.{Exhausted, Damaged}
-use Rattle.table.specs.declared.Answer.the-variants.{No}
+use Rattle.table.specs.declared.Refusal.the-variants.{Held, NoRoom, Exhausted, Damaged}
+use Rattle.table.specs.declared.Place.the-variants.{New, Asked, Take}
+use Rattle.table.specs.declared.Answer.the-variants.{Accepted, Done, Moved, Wait, No}
 use Rattle.machine.specs.Entries.{Ends, taskAt}
 use Rattle.machine.specs.Gate.{sizesOk}
 use Rattle.machine.specs.Setup.{setupOf}
 use Rattle.machine.specs.Call.{Call}
 use Rattle.machine.specs.Calls.{call, then, run}
 use Rattle.machine.specs.Sum.{roomSum}
-use Rattle.machine.specs.StillStore.{Store, emptyStore, taskOf, ownerAt, loadAnswer, sameAnswer}
+use Rattle.machine.specs.StillStore.{Store, emptyStore, taskOf, ownerAt, held, loadAnswer, sameAnswer}
 use Rattle.machine.specs.Kinds.{follows, beside}
 use Rattle.machine.specs.History.{InCopies, NoCopyTwice, noHistory, historyOf, copiesOf, NoFlip}
 use Rattle.machine.specs.Live.Live.{liveOf, sizeOf, filledAt}
@@ -28,6 +29,13 @@ use Rattle.machine.specs.Beside.Demand2.{load-right, same-right, undamag
 use Rattle.machine.specs.Beside.Waits.{waits}
 use Rattle.machine.specs.Beside.Moment.{writtenBy, begunBy, moment}
 use Rattle.machine.specs.Beside.Others.{Untouched, others, others-still}
+use Rattle.machine.specs.Beside.Stored.{StoreMoment, store-moment, store-pointer-moment}
+use Rattle.machine.specs.Beside.Named.{Names, registers-named}
+use Rattle.machine.specs.Beside.WaitsFor.{WaitsFor}
+use Rattle.machine.specs.Beside.Grey.{NothingGrey, IsHeld}
+use Rattle.machine.specs.Beside.Reasons.{TooFull, NoneLeft}
+use Rattle.machine.specs.Beside.HeldBegins.{Begins}
+use Rattle.machine.specs.Beside.Exact.{waits-right, ends-right, nine-right, flip-right, begun-right, seven-right}
 use Rattle.machine.specs.Beside.Rooms.{Suits}
 use Rattle.machine.specs.Beside.Demand3.{Lasts, AllSuit, copies-right, exactly-once, room-enough, flip-suits}
 
@@ -58,6 +66,50 @@ module _ (t : Table) (l : Limits) (ws : List ℕ) (accepted : sizesOk l (length 
   -- 4. A call that answers 10 is a step at a place, or a flip, that found less room than it needs.
   pub only-for-room : (c : Call) → then c (after cs t l ws) .out .answer ≡ No Exhausted → Spends c (after cs t l ws .out .table) (after cs t l ws .words)
   only-for-room = spent-for-room t l ws accepted cs living
+
+  -- 2. A Store that was begun and has ended has one step that wrote it; its slot is as before up to that step, and holds the
+  -- value after it, whatever other tasks did in between.
+  module _ (i : ℕ) (ds : List Call) where
+    pub store-takes-effect : (o slot v : ℕ) → then (Call.Store i o slot v) (after cs t l ws) .out .answer ≡ Accepted → Living ds (then (Call.Store i o slot v) (after cs t l ws))
+        → begunBy i ds (then (Call.Store i o slot v) (after cs t l ws)) ≡ 0
+        → waits (taskAt (run ds (then (Call.Store i o slot v) (after cs t l ws)) .out .table) i .place) ≡ 0
+        → StoreMoment (setUp t l ws) cs (Call.Store i o slot v) ds i (held (storeAfter cs t l ws) i o) slot v
+    store-takes-effect o slot v begun lives = store-moment t l ws accepted cs living i o slot v begun ds lives
+
+    pub pointer-takes-effect : (o slot r : ℕ) → then (Call.StorePointer i o slot r) (after cs t l ws) .out .answer ≡ Accepted
+        → Living ds (then (Call.StorePointer i o slot r) (after cs t l ws)) → begunBy i ds (then (Call.StorePointer i o slot r) (after cs t l ws)) ≡ 0
+        → waits (taskAt (run ds (then (Call.StorePointer i o slot r) (after cs t l ws)) .out .table) i .place) ≡ 0
+        → StoreMoment (setUp t l ws) cs (Call.StorePointer i o slot r) ds i (held (storeAfter cs t l ws) i o) slot (held (storeAfter cs t l ws) i r)
+    pointer-takes-effect o slot r begun lives = store-pointer-moment t l ws accepted cs living i o slot r begun ds lives
+
+  -- 5. At every moment the registers of all tasks are the addresses of the store's objects, different ones for different objects.
+  pub named : Names (after cs t l ws .out .table) (storeAfter cs t l ws)
+  named = registers-named t l ws accepted cs living
+
+  -- Whoever waits for q has a reason that q can end; a payment ends early only if nothing is grey; 9 and a flip are for want of
+  -- room; a begin is refused with 7 if the heap is held, and only then.
+  pub waits-for-reason : (i q : ℕ) → then (Call.Step i) (after cs t l ws) .out .answer ≡ Wait q
+      → (q < l .p) × WaitsFor (after cs t l ws .out .table) (after cs t l ws .words) i q (taskAt (after cs t l ws .out .table) i .place)
+  waits-for-reason = waits-right t l ws accepted cs living
+
+  pub ends-early-only : (i n : ℕ) → taskAt (after cs t l ws .out .table) i .place ≡ Take n → then (Call.Step i) (after cs t l ws) .out .answer ≡ Done
+      → NothingGrey (after cs t l ws .out .table)
+  ends-early-only = ends-right t l ws accepted cs living
+
+  pub nine-only-for-room : (i r len m : ℕ) → after cs t l ws .out .table .on ≡ true → taskAt (after cs t l ws .out .table) i .place ≡ New r len m
+      → then (Call.Step i) (after cs t l ws) .out .answer ≡ No NoRoom → TooFull (after cs t l ws .out .table) len
+  nine-only-for-room = nine-right t l ws accepted cs living
+
+  pub flips-only-for-room : (i r len m : ℕ) → after cs t l ws .out .table .on ≡ false
+      → (taskAt (after cs t l ws .out .table) i .place ≡ New r len m) ⊎ (taskAt (after cs t l ws .out .table) i .place ≡ Asked r len m)
+      → then (Call.Step i) (after cs t l ws) .out .answer ≡ Moved → NoneLeft (after cs t l ws .out .table) len
+  flips-only-for-room = flip-right t l ws accepted cs living
+
+  pub not-begun-while-held : (c : Call) → Begins c → then c (after cs t l ws) .out .answer ≡ Accepted → IsHeld (after cs t l ws .out .table) (after cs t l ws .out .table .on) → ⊥
+  not-begun-while-held = begun-right t l ws accepted cs living
+
+  pub seven-only-while-held : (c : Call) → Begins c → then c (after cs t l ws) .out .answer ≡ No Held → IsHeld (after cs t l ws .out .table) (after cs t l ws .out .table .on)
+  seven-only-while-held = seven-right t l ws accepted cs living
 
 -- 2. Each Store that is begun is written once, before its instruction has ended; none is written that was not begun. (waits:
 -- 1 while a Store has begun and is not written. Of any table and any words.)

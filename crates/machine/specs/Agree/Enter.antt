@@ -1,5 +1,5 @@
 -- A table with one entry and the marks changed: the machine's tables have this form, and what shows that it agrees.
-use Prim.Native.Nat.{ℕ, zero, suc, _+_, _-_, _*_, _≤_, _<_}
+use Prim.Native.Nat.{ℕ, zero, suc, _+_, _*_, _≤_, _<_}
 use mathlib.Core.Path.{_≡_, refl, ap, sym, _∙_}
 use mathlib.Core.List.{List, [], _∷_, map}
 use mathlib.Core.Bool.{Bool, true, false}
@@ -48,10 +48,6 @@ pub entered-place : (pa ra : ℕ → ℕ) (o : State) (t : Table) (i : ℕ) (pl 
     → withPlace t i (atPlace pa ra pl) ≡ entered t (t .marks) i (atTask pa ra (goes (o .tasks i) pl))
 unfolding withPlace withTask
 entered-place pa ra o t i pl e = rw e
-
-pub entered-task : (t : Table) (i : ℕ) (e : Task) → withTask t i e ≡ entered t (t .marks) i e
-unfolding withTask
-entered-task t i e = refl
 
 pub entered-register : (pa ra : ℕ → ℕ) (o : State) (t : Table) (i r : ℕ) (x : Primary) → taskAt t i ≡ atTask pa ra (o .tasks i)
     → withRegister t i r (atPrimary pa x)

@@ -91,37 +91,17 @@ module _ {K : ℕ → Type 0} {pa ra : ℕ → ℕ} {o : State} {t : Table} {ws 
   pointer-word x j h l m = slot-of x j h l ∙ rw (lt-ltb j (o .shape .ptr x) m) refl
 
   -- ---- words of a replica
-  pub twin-descriptor-word : (x : ℕ) → Held K (o .shape) x → IsPlaced (o .hd x) → getD ws (ra x - 2) 0 ≡ descriptor (o .shape .len x) (o .shape .ptr x)
-  twin-descriptor-word x h i =
-      let e : ra x - 2 ≡ ra x - 2 + 0 = omega arith in
-      ap (λ i. getD ws i 0) e ∙ k .mem (R x 0) (h, i, tt) (λ i. i)
-
   pub twin-header-word : (x : ℕ) → Held K (o .shape) x → IsPlaced (o .hd x) → getD ws (ra x - 1) 0 ≡ copyWord (o .hd x)
   twin-header-word x h i =
       let e : ra x - 1 ≡ ra x - 2 + 1 = omega (arith, ra-four k x h i) in
       ap (λ i. getD ws i 0) e ∙ k .mem (R x 1) (h, i, tt) (λ i. i)
 
-  pub twin-slot-of : (x j : ℕ) → Held K (o .shape) x → IsPlaced (o .hd x) → j < o .shape .len x → o .has x j ≡ true
-      → getD ws (ra x + j) 0 ≡ slotWord ra (o .shape .ptr x) j (o .rep x j)
-  twin-slot-of x j h i l w =
-      let e : ra x + j ≡ ra x - 2 + suc (suc j) = omega (arith, ra-four k x h i) in
-      ap (λ i. getD ws i 0) e ∙ k .mem (R x (suc (suc j))) (h, i, (l, w)) (λ i. i)
-
   -- ---- where writes go: headers and slots lie inside the buffer
   pub header-in : (x : ℕ) → Held K (o .shape) x → pa x - 1 < length ws
   header-in x h = omega (arith, k .lay .inside x h)
 
-  pub slot-in : (x j : ℕ) → Held K (o .shape) x → j < o .shape .len x → pa x + j < length ws
-  slot-in x j h l = omega (arith, k .lay .inside x h)
-
   pub twin-inside : (x : ℕ) → Held K (o .shape) x → IsPlaced (o .hd x) → ra x + o .shape .len x ≤ length ws
   twin-inside x h i = omega (arith, k .lay .where-r x h i, a-high k, top-high k, end-inside k)
-
-  pub twin-header-in : (x : ℕ) → Held K (o .shape) x → IsPlaced (o .hd x) → ra x - 1 < length ws
-  twin-header-in x h i = omega (arith, ra-four k x h i, twin-inside x h i)
-
-  pub twin-slot-in : (x j : ℕ) → Held K (o .shape) x → IsPlaced (o .hd x) → j < o .shape .len x → ra x + j < length ws
-  twin-slot-in x j h i l = omega (arith, twin-inside x h i)
 
   -- ---- the stack
   pub stack-room : {x : ℕ} {st : List ℕ} → o .stack ≡ x ∷ st → t .marks .top < end t
@@ -135,13 +115,6 @@ module _ {K : ℕ → Type 0} {pa ra : ℕ → ℕ} {o : State} {t : Table} {ws 
 
   pub stack-empty : o .stack ≡ [] → t .marks .top ≡ end t
   stack-empty e = omega (arith, k .marked .stack, ap length e)
-
-  pub empty-stack : t .marks .top ≡ end t → o .stack ≡ []
-  empty-stack e = go (o .stack) refl
-    where
-      go : (st : List ℕ) → o .stack ≡ st → st ≡ []
-      go [] q = refl
-      go (x ∷ st) q = absurd (omega (arith, stack-room q))
 
 -- ---- the checks, of objects
 module _ {K : ℕ → Type 0} {p : ℕ} {pa ra : ℕ → ℕ} {o : State} {t : Table} {ws : List ℕ} (v : Inv K p (t .limits .s) o) (k : Agree K pa ra o t ws) where

@@ -1,8 +1,8 @@
 -- The slot of a Store: as before between its begin and its write, whatever other tasks do; and after its write the value stored.
 use Prim.Native.Nat.{ℕ, _<_}
 use mathlib.Core.Path.{_≡_, refl, ap, sym, subst, _∙_}
-use mathlib.Core.Logic.{_≢_, _⊎_, inl, inr}
-use mathlib.Core.List.{List, [], _∷_, map}
+use mathlib.Core.Logic.{_⊎_, inl, inr}
+use mathlib.Core.List.{List, [], _∷_}
 use mathlib.Core.Bool.{Bool, true, false}
 use native.Mathlib.Decide.{ℕ-discrete}
 use native.Mathlib.Omega.{arith}
@@ -20,7 +20,6 @@ use Rattle.machine.specs.Calls.{then, run}
 use Rattle.machine.specs.StillStore.{Store, resting, storing, Kind, Made, Written, Ended, ownerAt, thingAt, taskOf, happenAll, told}
 use Rattle.machine.specs.Kinds.{pays, doneKinds, movedKinds, stepKinds, follows, beside}
 use Rattle.machine.specs.History.{History, historyAfter}
-use Rattle.machine.specs.Beside.Still.{number}
 use Rattle.machine.specs.Beside.Good.{Good}
 use Rattle.machine.specs.Beside.Waits.{refused-writes}
 use Rattle.machine.specs.Beside.Moment.{waits, writes, kindsOf, writtenIn, begunIn, writtenBy, moment-one}
@@ -220,9 +219,3 @@ slot-after {w = w} e g i x j v q c h = on (step-of i c e) (ℕ-discrete (waits (
         (at-step (omega (arith, z, waits-once (taskAt (e .out .table) i .place))) (subst (λ (d : Call). writtenIn i d e ≡ 1) (p .0) h))
 
 -- ---- the registers of the other tasks
--- name the same objects before and after a call
-pub registers-same : {l : Limits} {w : Store} {hy hy′ : History} (c : Call) (e : Ends) (g : Good l w hy (e .out .table) (e .words))
-    (g′ : Good l (follows w c e (then c e)) hy′ (then c e .out .table) (then c e .words)) (u : ℕ) → u ≢ taskOf c → u < 8
-    → map number (g .objects .tasks u .regs) ≡ map number (g′ .objects .tasks u .regs)
-registers-same {w = w} c e g g′ u d b =
-    sym (g .still .tasks u b .regs) ∙ sym (ap (λ o. o .regs) (others-still w c e (then c e) u d)) ∙ g′ .still .tasks u b .regs

@@ -1,8 +1,7 @@
 -- What a collection has done, in objects and in the run's history.
 use Prim.Native.Nat.{ℕ, suc, _+_, _≤_, _<_}
 use mathlib.Core.Path.{_≡_}
-use mathlib.Core.List.{List, [], map}
-use mathlib.Core.Bool.{Bool, true, false}
+use mathlib.Core.List.{List, map}
 use lib.ListN.{length}
 use Rattle.table.specs.declared.Table.{Table}
 use Rattle.machine.specs.History.{Copy, copy, InCopies, NoCopyTwice, History}

@@ -1,7 +1,7 @@
 -- Demand 3, from the runs in which table, store and history stand side by side.
-use Prim.Native.Nat.{ℕ, _+_, _*_, _/_, _≤_, _<_}
+use Prim.Native.Nat.{ℕ, _≤_, _<_}
 use mathlib.Core.Path.{_≡_, refl, ap, sym, _∙_}
-use mathlib.Core.Logic.{_≢_, _⊎_, inl, inr}
+use mathlib.Core.Logic.{_≢_, inl, inr}
 use mathlib.Core.List.{List, [], _∷_}
 use mathlib.Core.Bool.{Bool, true, false}
 use native.Mathlib.Omega.{arith}
@@ -19,15 +19,15 @@ use Rattle.machine.specs.Call.{Call}
 use Rattle.machine.specs.Calls.{then, run}
 use Rattle.machine.specs.StillStore.{Store, emptyStore}
 use Rattle.machine.specs.Kinds.{follows, beside}
-use Rattle.machine.specs.History.{Copy, InCopies, NoCopyTwice, History, noHistory, withCopies, isFlip, flipHistory, stepHistory, historyAfter, historyOf, copied, copiesOf, NoFlip}
+use Rattle.machine.specs.History.{InCopies, NoCopyTwice, History, noHistory, withCopies, isFlip, flipHistory, historyAfter, historyOf, copied, copiesOf, NoFlip}
 use Rattle.machine.specs.Live.Live.{liveOf, sizeOf, filledAt}
-use Rattle.machine.specs.Objects.Base.{In, off-on}
+use Rattle.machine.specs.Objects.Base.{In}
 use Rattle.machine.specs.Beside.Collecting.{Exact}
 use Rattle.machine.specs.Beside.Exactly.{counted}
 use Rattle.machine.specs.Beside.Histories.{flip-history}
 use Rattle.machine.specs.Beside.Finish.{known-of}
 use Rattle.machine.specs.Beside.Good.{Good}
-use Rattle.machine.specs.Beside.Run.{Living, Well, Proceeds, proceeds, good-run}
+use Rattle.machine.specs.Beside.Run.{Living, Proceeds, proceeds, good-run}
 use Rattle.machine.specs.Beside.Rooms.{Suits, suits-on, suits-off}
 use Rattle.machine.specs.Beside.Demand2.{good-after}
 
@@ -94,10 +94,6 @@ all-suit l w hy (c ∷ cs) e g enough last = (now, on (λ k. all-suit l (follows
     on : (Good l (follows w c e (then c e)) (historyAfter c e (then c e) hy) (then c e .out .table) (then c e .words) → AllSuit cs (then c e)) → Proceeds l w hy c e → AllSuit cs (then c e)
     on f (inl h) = absurd (now .1 (h .0))
     on f (inr h) = f (h .0)
-
-all-living : (cs : List Call) (e : Ends) → AllSuit cs e → Living cs e
-all-living [] e h = tt
-all-living (c ∷ cs) e h = (h .0 .1, all-living cs (then c e) (h .1))
 
 module _ (t : Table) (l : Limits) (ws : List ℕ) (accepted : sizesOk l (length ws) ≡ true) (cs : List Call) (living : Living cs (setupOf t l ws)) where
   abbrev now : Ends

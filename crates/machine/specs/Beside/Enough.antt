@@ -7,13 +7,12 @@ use native.Mathlib.Decide.{ℕ-discrete, decLt, decLe}
 use native.Mathlib.Omega.{arith}
 use lib.ListN.{length}
 use lib.Dec.{eqb}
-use borrow.Author.Tests.{le-leb}
 use Rattle.table.specs.declared.Primary.{Primary}
 use Rattle.table.specs.declared.Then.{Then}
 use Rattle.table.specs.declared.Place.the-variants.{Idle, New, Placing}
 use Rattle.table.specs.declared.Table.{Table}
 use Rattle.machine.specs.Basics.{pick}
-use Rattle.machine.specs.Words.{endOf, roomOf, roomFor}
+use Rattle.machine.specs.Words.{endOf, roomOf}
 use Rattle.machine.specs.History.{InCopies, History}
 use Rattle.machine.specs.Objects.Base.{clash, upd, upd-all, sumTo}
 use Rattle.machine.specs.Objects.State.{Hd, white, claimed, count, locked, State, IsSeen, Late}
@@ -229,12 +228,6 @@ module _ {K : ℕ → Type 0} {pa ra : ℕ → ℕ} {o : State} {t : Table} {ws 
         by : (b : Bool) → pick b (o .shape .len (q .0) + 2) (o .shape .len (q .0) + 3) ≤ t .marks .top - t .marks .a - t .marks .j
         by true = omega (arith, room)
         by false = room
-
-    -- so refusal 9 does not come, and a place is not without room
-    pub new-fits : (i r len m : ℕ) → o .tasks i .place ≡ New r len m → i < t .limits .p
-        → roomFor true (t .marks) (end t) (2 * (len + 2)) ≡ true
-    unfolding roomFor
-    new-fits i r len m e l = le-leb (2 * (len + 2)) (t .marks .top - t .marks .a - t .marks .j) (new-room i r len m e l)
 
     pub place-fits : (i : ℕ) (q : Primary) (th : Then) → o .tasks i .place ≡ Placing q th → i < t .limits .p
         → roomOf true (t .marks) (end t) < placeNeeds (o .shape .len (q .0)) → ⊥

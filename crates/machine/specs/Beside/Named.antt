@@ -4,7 +4,7 @@ use mathlib.Core.Path.{_≡_, ap, sym, _∙_}
 use mathlib.Core.Logic.{_≢_, inl, inr}
 use mathlib.Core.List.{List}
 use mathlib.Core.Bool.{true}
-use lib.ListN.{length, getD}
+use lib.ListN.{length}
 use Rattle.table.specs.declared.Limits.{Limits}
 use Rattle.table.specs.declared.Primary.{Primary}
 use Rattle.table.specs.declared.Table.{Table}
@@ -15,7 +15,7 @@ use Rattle.machine.specs.Gate.{sizesOk}
 use Rattle.machine.specs.Setup.{setupOf}
 use Rattle.machine.specs.Call.{Call}
 use Rattle.machine.specs.Calls.{then, run}
-use Rattle.machine.specs.StillStore.{Store, Owner, emptyStore, held, taskOf}
+use Rattle.machine.specs.StillStore.{Store, emptyStore, held}
 use Rattle.machine.specs.Kinds.{follows, beside}
 use Rattle.machine.specs.History.{History, noHistory, historyOf}
 use Rattle.machine.specs.Objects.State.{root}
@@ -23,7 +23,6 @@ use Rattle.machine.specs.Agree.Names.{pa-inj}
 use Rattle.machine.specs.Agree.Complete.{register-of}
 use Rattle.machine.specs.Beside.StillLaws.{still-register}
 use Rattle.machine.specs.Beside.Good.{Good}
-use Rattle.machine.specs.Beside.Others.{others-still}
 use Rattle.machine.specs.Beside.Run.{Living, Proceeds, proceeds}
 use Rattle.machine.specs.Beside.Demand2.{good-after}
 
@@ -69,13 +68,3 @@ module _ (t : Table) (l : Limits) (ws : List ℕ) (accepted : sizesOk l (length 
         on : Proceeds l stored (historyOf cs (setupOf t l ws) noHistory) c now → Names (then c now .out .table) (follows stored c now (then c now))
         on (inl h) = absurd (alive (h .0))
         on (inr h) = names (h .0)
-
-    -- the register of a task that the call does not name: one object, before and after
-    pub others-name : (u r : ℕ) → u ≢ taskOf c → u < 8
-        → (register (taskAt (now .out .table) u) r .0 ≡ registers-named .address (held stored u r))
-        × (register (taskAt (then c now .out .table) u) r .0 ≡ registers-named-after .address (held stored u r))
-    others-name u r d b = (
-      registers-named .registers u r b,
-      registers-named-after .registers u r b
-          ∙ ap (λ (o : Owner). registers-named-after .address (getD (o .regs) r 0)) (others-still stored c now (then c now) u d),
-    )

@@ -1,10 +1,9 @@
 -- Nobody in between: what a call makes of the entries of tasks that it does not name, and of those tasks in the store.
-use Prim.Native.Nat.{ℕ, zero, suc, _<_}
-use mathlib.Core.Path.{_≡_, refl, ap, sym, _∙_}
+use Prim.Native.Nat.{ℕ, zero, suc}
+use mathlib.Core.Path.{_≡_, refl, ap, _∙_}
 use mathlib.Core.Logic.{_≢_, _⊎_, inl, inr}
 use mathlib.Core.List.{List, [], _∷_}
 use mathlib.Core.Bool.{true, false}
-use native.Mathlib.Omega.{arith}
 use lib.ListN.{length, getD, set, length-set}
 use lib.Seq.{getD-set-other}
 use Rattle.table.specs.declared.Place.{Place}
@@ -21,7 +20,6 @@ use Rattle.machine.specs.Call.{Call}
 use Rattle.machine.specs.Calls.{call}
 use Rattle.machine.specs.StillStore.{Store, Doing, resting, making, filling, storing, Kind, Made, Filled, Written, Ended, owner, ownerAt, makes, fills, writes, happens, happenAll, accepted, taskOf, told}
 use Rattle.machine.specs.Kinds.{follows}
-use Rattle.machine.specs.Objects.Base.{off-on}
 use Rattle.machine.specs.Beside.Changes.{Answered, stayed, entered, move-entries, clear-entries, put-entries, get-entries, same-entries, load-entries, report-entries, new-entries, fill-entries, fill-pointer-entries, store-entries, store-pointer-entries}
 use Rattle.machine.specs.Beside.StepChanges.{Stepped, stands, goes, flips, switches}
 use Rattle.machine.specs.Beside.Fair.{step-entries}
@@ -34,13 +32,6 @@ first-at zero new l u d = inl refl
 first-at (suc n) new [] u d = inl refl
 first-at (suc n) new (x ∷ l) zero d = inr refl
 first-at (suc n) new (x ∷ l) (suc u) d = first-at n new l u d
-
-pub first-new : {A : Type 0} (n : ℕ) (new : A → A) (l : List A) (u : ℕ) (d : A) → u < n → u < length l → getD (firstOf n new l) u d ≡ new (getD l u d)
-unfolding firstOf
-first-new zero new l u d p q = absurd (omega arith)
-first-new (suc n) new [] u d p q = absurd (omega arith)
-first-new (suc n) new (x ∷ l) zero d p q = refl
-first-new (suc n) new (x ∷ l) (suc u) d p q = first-new n new l u d (omega arith) (omega arith)
 
 pub first-long : {A : Type 0} (n : ℕ) (new : A → A) (l : List A) → length (firstOf n new l) ≡ length l
 unfolding firstOf
@@ -129,55 +120,8 @@ module _ (c : Call) (t : Table) (f : Ends) (u : ℕ) (d : u ≢ taskOf c) where
   changed-other (answered b q) = inl (answered-other b t (taskOf c) (f .out) u d q)
   changed-other (stepped s q) = stepped-other (taskAt t (taskOf c) .place) s q
 
-  -- where the collector went on, each entry of the P tasks is as a flip leaves it; where it went off, as a switch-over does
-  changed-flipped : Changed c t f → u < t .limits .p → u < length (t .tasks) → t .on ≡ false → f .out .table .on ≡ true
-      → taskAt (f .out .table) u ≡ unaskedEntry (taskAt t u)
-  changed-flipped (answered b (stayed e a z)) p l off on = off-on (sym off ∙ sym a ∙ on)
-  changed-flipped (answered b (entered x e a z)) p l off on = off-on (sym off ∙ sym a ∙ on)
-  changed-flipped (stepped s (stands e a z)) p l off on = off-on (sym off ∙ sym a ∙ on)
-  changed-flipped (stepped s (goes x e a z)) p l off on = off-on (sym off ∙ sym a ∙ on)
-  changed-flipped (stepped s (flips a b e z)) p l off on = rw e (first-new (t .limits .p) unaskedEntry (t .tasks) u noTask p l)
-  changed-flipped (stepped s (switches x a b e z)) p l off on = off-on (sym off ∙ a)
-
-  changed-switched : Changed c t f → u < t .limits .p → u < length (t .tasks) → t .on ≡ true → f .out .table .on ≡ false
-      → taskAt (f .out .table) u ≡ newEntry (f .words) (t .limits .s) (taskAt t u)
-  changed-switched (answered b (stayed e a z)) p l on off = off-on (sym off ∙ a ∙ on)
-  changed-switched (answered b (entered x e a z)) p l on off = off-on (sym off ∙ a ∙ on)
-  changed-switched (stepped s (stands e a z)) p l on off = off-on (sym off ∙ a ∙ on)
-  changed-switched (stepped s (goes x e a z)) p l on off = off-on (sym off ∙ a ∙ on)
-  changed-switched (stepped s (flips a b e z)) p l on off = off-on (sym a ∙ on)
-  changed-switched (stepped s (switches x a b e z)) p l on off =
-      rw (e, ← (getD-set-other (t .tasks) (taskOf c) u x noTask d))
-      (first-new (t .limits .p) (newEntry (f .words) (t .limits .s)) (set (t .tasks) (taskOf c) x) u noTask p
-      (rw (length-set (t .tasks) (taskOf c) x) l))
-
 pub others : (c : Call) (t : Table) (ws : List ℕ) (u : ℕ) → u ≢ taskOf c → Untouched c t (call c t ws) u
 others c t ws u d = changed-other c t (call c t ws) u d (changed c t ws)
-
--- a flip and a switch-over pass over none of the P tasks
-pub others-flipped : (c : Call) (t : Table) (ws : List ℕ) (u : ℕ) → u ≢ taskOf c → u < t .limits .p → u < length (t .tasks)
-    → t .on ≡ false → call c t ws .out .table .on ≡ true → taskAt (call c t ws .out .table) u ≡ unaskedEntry (taskAt t u)
-others-flipped c t ws u d p l off on = changed-flipped c t (call c t ws) u d (changed c t ws) p l off on
-
-pub others-switched : (c : Call) (t : Table) (ws : List ℕ) (u : ℕ) → u ≢ taskOf c → u < t .limits .p → u < length (t .tasks)
-    → t .on ≡ true → call c t ws .out .table .on ≡ false
-    → taskAt (call c t ws .out .table) u ≡ newEntry (call c t ws .words) (t .limits .s) (taskAt t u)
-others-switched c t ws u d p l on off = changed-switched c t (call c t ws) u d (changed c t ws) p l on off
-
--- so neither a flip nor a switch-over: as it was
-pub others-stay : (c : Call) (t : Table) (ws : List ℕ) (u : ℕ) → u ≢ taskOf c → call c t ws .out .table .on ≡ t .on
-    → taskAt (call c t ws .out .table) u ≡ taskAt t u
-others-stay c t ws u d same = on (others c t ws u d)
-  where
-    on : Untouched c t (call c t ws) u → taskAt (call c t ws .out .table) u ≡ taskAt t u
-    on (inl e) = e
-    on (inr (inl e)) = off-on (sym (e .1) ∙ sym same ∙ e .2)
-    on (inr (inr e)) = off-on (sym (e .2) ∙ same ∙ e .1)
-
--- what a flip and a switch-over leave of an entry
-pub unasked-keeps : (e : Task) → (unaskedEntry e .regs ≡ e .regs) × (unaskedEntry e .pending ≡ e .pending) × (unaskedEntry e .storing ≡ e .storing)
-unfolding unaskedEntry
-unasked-keeps e = (refl, refl, refl)
 
 pub renamed-keeps : (ws : List ℕ) (s : ℕ) (e : Task) → (newEntry ws s e .storing ≡ e .storing) × (newEntry ws s e .place ≡ e .place)
 unfolding newEntry

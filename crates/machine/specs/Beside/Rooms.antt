@@ -1,7 +1,7 @@
 -- With enough room no call answers 9 or 10: one call, in a state of a collection or just before its flip.
 use Prim.Native.Nat.{ℕ, _+_, _*_, _/_, _≤_, _<_}
 use mathlib.Core.Path.{_≡_, refl, ap, sym, _∙_}
-use mathlib.Core.Logic.{_≢_, _⊎_, inl, inr}
+use mathlib.Core.Logic.{_≢_, inl, inr}
 use mathlib.Core.List.{List}
 use mathlib.Core.Bool.{Bool, true, false}
 use native.Mathlib.Decide.{ℕ-discrete}
@@ -10,29 +10,21 @@ use lib.ListN.{length}
 use lib.Dec.{ltb}
 use borrow.Author.Tests.{ltb-true}
 use Rattle.table.specs.declared.Limits.{Limits}
-use Rattle.table.specs.declared.Primary.{Primary}
-use Rattle.table.specs.declared.Then.{Then}
 use Rattle.table.specs.declared.Place.{Place}
 use Rattle.table.specs.declared.Place.the-variants.{Idle, New, Asked, FillWrite, FillCopy, StoreWrite, Meet, StoreCopy, Take, Read, Put, Release, Looking, Placing}
 use Rattle.table.specs.declared.Task.{Task}
 use Rattle.table.specs.declared.Table.{Table}
-use Rattle.table.specs.declared.Object.{Object}
 use Rattle.table.specs.declared.Object.the-variants.{Whole}
-use Rattle.table.specs.declared.Gate.the-variants.{Open, Shut}
 use Rattle.table.specs.declared.Refusal.the-variants.{NoTask, NoRoom, Exhausted}
-use Rattle.table.specs.declared.Answer.{Answer}
 use Rattle.table.specs.declared.Answer.the-variants.{No}
-use Rattle.machine.specs.Basics.{pick}
-use Rattle.machine.specs.Numbers.{refusal}
-use Rattle.machine.specs.Words.{primary, objectOf, roomOf}
 use Rattle.machine.specs.Entries.{taskAt, Ends}
-use Rattle.machine.specs.Step.{stepThrough, taskStepOf, stepOf}
+use Rattle.machine.specs.Step.{stepOf}
 use Rattle.table.specs.declared.Sought.the-variants.{Blocker}
 use Rattle.table.specs.declared.Found.the-variants.{Nobody}
 use Rattle.machine.specs.Tasks.{seekOf}
 use Rattle.machine.specs.Sum.{roomSum}
 use Rattle.machine.specs.Call.{Call}
-use Rattle.machine.specs.Calls.{call, then}
+use Rattle.machine.specs.Calls.{then}
 use Rattle.machine.specs.StillStore.{Store}
 use Rattle.machine.specs.History.{History}
 use Rattle.machine.specs.Live.Live.{liveOf, sizeOf}
@@ -40,16 +32,15 @@ use Rattle.machine.specs.Objects.Base.{off-on}
 use Rattle.machine.specs.Objects.MoveLaws.{at-place}
 use Rattle.machine.specs.Objects.Flipped.{Restful}
 use Rattle.machine.specs.Agree.Encode.{atPlace}
-use Rattle.machine.specs.Agree.Agree.{end}
 use Rattle.machine.specs.Agree.Gates.{call-gate}
 use Rattle.machine.specs.Agree.Names.{sound-held}
 use Rattle.machine.specs.Agree.Read.{object-of}
 use Rattle.machine.specs.Agree.Search.{no-blocker}
-use Rattle.machine.specs.Beside.Room.{placeNeeds, WantsRoom}
+use Rattle.machine.specs.Beside.Room.{WantsRoom}
 use Rattle.machine.specs.Beside.RoomLaws.{sum-out}
 use Rattle.machine.specs.Beside.Enough.{new-room, place-fits}
 use Rattle.machine.specs.Beside.FlipFits.{flip-fits-live}
-use Rattle.machine.specs.Beside.Good.{Good, Undamaged, Crowded, Fine}
+use Rattle.machine.specs.Beside.Good.{Good, Crowded}
 use Rattle.machine.specs.Beside.Glue.{entry-of}
 use Rattle.machine.specs.Beside.Run.{Spends, Well, Proceeds, proceeds}
 use Rattle.machine.specs.Beside.Demand2.{not-spent}

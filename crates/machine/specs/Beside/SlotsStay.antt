@@ -1,7 +1,6 @@
 -- In the store a filled slot changes only where a Store into it is written.
-use Prim.Native.Nat.{ℕ, zero, suc, _-_, _<_}
+use Prim.Native.Nat.{ℕ, _-_, _<_}
 use mathlib.Core.Path.{_≡_, refl, ap, sym, _∙_}
-use mathlib.Core.Logic.{_≢_}
 use mathlib.Core.List.{List, [], _∷_, _++_}
 use native.Mathlib.Decide.{ℕ-discrete, decLt}
 use native.Mathlib.Omega.{arith}
@@ -12,14 +11,13 @@ use Rattle.table.specs.declared.Answer.{Answer}
 use Rattle.table.specs.declared.Answer.the-variants.{Accepted, Done, Value, Moved, Wait, Report, No}
 use Rattle.machine.specs.Entries.{taskAt, Ends}
 use Rattle.machine.specs.Call.{Call}
-use Rattle.machine.specs.Calls.{then}
-use Rattle.machine.specs.StillStore.{emptyStore, Store, Owner, Thing, Doing, resting, making, filling, storing, Kind, Made, Filled, Written, Ended, owner, thing, store, ownerAt, thingAt, makes, fills, fillsThing, writesThing, endsOwner, happens, happenAll, accepted, taskOf, told}
+use Rattle.machine.specs.StillStore.{emptyStore, Store, Owner, Thing, Doing, resting, making, filling, storing, Kind, Made, Filled, Written, Ended, owner, thing, ownerAt, thingAt, makes, fills, fillsThing, writesThing, endsOwner, happens, happenAll, accepted, taskOf, told}
 use Rattle.machine.specs.StillStore.{writes as puts}
 use Rattle.machine.specs.Kinds.{made, follows, beside}
 use Rattle.machine.specs.Opened.{started, opened}
 use Rattle.machine.specs.Objects.Base.{clash}
 use Rattle.machine.specs.Beside.Changes.{pick-all}
-use Rattle.machine.specs.Beside.Moment.{writes, kindsOf}
+use Rattle.machine.specs.Beside.Moment.{writes}
 
 -- slot j of the thing at x stays: it is filled still, and holds what it held
 pub record Stays (s w : Store) (x j : ℕ) : Type 0 where
@@ -163,21 +161,6 @@ happen-stays (Ended ∷ ks) s i x j l h =
     no-store : {A : Type 0} {y k v : ℕ} → resting ≡ storing y k v → A
     no-store e = let z : _≡_ {A = ℕ} 0 1 = cc in clash z
 
--- In the words of a reader: a slot of object x stays, unless a Store into it is written; a Store into nil is not under way.
-pub slots-stay : (ks : List Kind) (s : Store) (i x j : ℕ) → 0 < x → j < length (thingAt s x .slots)
-    → ((v : ℕ) → ownerAt s i .doing ≡ storing x j v → writes ks ≡ 0) → ((v : ℕ) → ownerAt s i .doing ≢ storing 0 j v)
-    → getD (thingAt (happenAll s i ks) x .slots) j 0 ≡ getD (thingAt s x .slots) j 0
-slots-stay ks s i x j z l h n = happen-stays ks s i x j l spares .same
-  where
-    spares : Spares s i ks x j
-    spares zero v e q = absurd (n v e)
-    spares (suc y) v e q = let r : suc y ≡ x = omega (arith, q, z) in h v (e ∙ ap (λ (m : ℕ). storing m j v) r)
-
--- why the last hypothesis: a Store into nil would hit object 1 (the numbers 0 and 1 have the same place in the list)
-nil-hits-first : getD (thingAt (happenAll (store (owner [] 0 0 (storing 0 0 9) ∷ []) [] (thing 1 0 (7 ∷ []) ∷ [])) 0 (Written ∷ [])) 1 .slots) 0 0 ≡ 9
-unfolding happenAll
-nil-hits-first = refl
-
 -- and the write puts its value there
 pub slot-written : (s : Store) (i x j v : ℕ) → j < length (thingAt s x .slots) → ownerAt s i .doing ≡ storing x j v
     → getD (thingAt (happens s i Written) x .slots) j 0 ≡ v
@@ -240,18 +223,6 @@ follow-stays s (Call.Put task root r) e f x j l h = things-stay s _ x j (told-th
 follow-stays s (Call.Get task r root) e f x j l h = things-stay s _ x j (told-things s (Call.Get task r root) (f .out .answer)) l
 follow-stays s (Call.Step task) e f x j l h = rw (told-step s task (f .out .answer) _) (happen-stays _ s task x j l h)
 follow-stays s Call.Report e f x j l h = things-stay s _ x j (told-things s Call.Report (f .out .answer)) l
-
--- no call of the list writes a Store into slot j of the thing at x
-abbrev pub SparedBy : List Call → Ends → Store → ℕ → ℕ → Type 0
-SparedBy [] e s x j = Unit {0}
-SparedBy (c ∷ cs) e s x j = Spares s (taskOf c) (kindsOf c e) x j × SparedBy cs (then c e) (follows s c e (then c e)) x j
-
-pub run-stays : (cs : List Call) (e : Ends) (s : Store) (x j : ℕ) → j < length (thingAt s x .slots) → SparedBy cs e s x j → Stays s (beside cs e s) x j
-unfolding beside
-run-stays [] e s x j l h = record { filled = l; same = refl }
-run-stays (c ∷ cs) e s x j l h =
-    let a = follow-stays s c e (then c e) x j l (h .0) in
-    after s (follows s c e (then c e)) x j _ a (run-stays cs (then c e) (follows s c e (then c e)) x j (a .filled) (h .1))
 
 -- ---- a computed instance: the slot holds 7 while the Store of 8 waits, and 8 after its step
 stored : List Call

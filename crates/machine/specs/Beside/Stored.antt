@@ -42,11 +42,6 @@ abbrev pub slotOf : Store → ℕ → ℕ → ℕ
 slotOf s x j = getD (thingAt s x .slots) j 0
 
 -- ---- one list of calls after another
-pub run-append : (cs ds : List Call) (e : Ends) → run (cs ++ ds) e ≡ run ds (run cs e)
-unfolding run
-run-append [] ds e = refl
-run-append (c ∷ cs) ds e = run-append cs ds (then c e)
-
 pub beside-append : (cs ds : List Call) (e : Ends) (s : Store) → beside (cs ++ ds) e s ≡ beside ds (run cs e) (beside cs e s)
 unfolding run beside
 beside-append [] ds e s = refl
@@ -184,16 +179,6 @@ module _ (t : Table) (l : Limits) (ws : List ℕ) (accepted : sizesOk l (length 
     opened-word : Opens stored (Call.Store i o slot v) now i (held stored i o) slot v
     opened-word = store-opens now (good-after t l ws accepted cs living) i o slot v begun
 
-    -- not yet written: the slot is as before the begin
-    pub store-slot-before : writtenBy i ds (then (Call.Store i o slot v) now) ≡ 0
-        → slotOf (beside (cs ++ (Call.Store i o slot v ∷ ds)) start emptyStore) (held stored i o) slot ≡ slotOf stored (held stored i o) slot
-    store-slot-before none = slot-unwritten (Call.Store i o slot v) i (held stored i o) slot v opened-word ds lives none
-
-    -- written by the call d: it holds v
-    pub store-slot-after : writtenBy i ds (then (Call.Store i o slot v) now) ≡ 0 → (d : Call) → writtenIn i d (run ds (then (Call.Store i o slot v) now)) ≡ 1
-        → slotOf (beside (cs ++ (Call.Store i o slot v ∷ (ds ++ (d ∷ [])))) start emptyStore) (held stored i o) slot ≡ v
-    store-slot-after none d h = slot-stored (Call.Store i o slot v) i (held stored i o) slot v opened-word ds lives none d h
-
     pub store-moment : begunBy i ds (then (Call.Store i o slot v) now) ≡ 0 → waits (taskAt (run ds (then (Call.Store i o slot v) now) .out .table) i .place) ≡ 0
         → StoreMoment start cs (Call.Store i o slot v) ds i (held stored i o) slot v
     store-moment none ended = stored-once (Call.Store i o slot v) i (held stored i o) slot v opened-word ds lives none ended
@@ -203,15 +188,6 @@ module _ (t : Table) (l : Limits) (ws : List ℕ) (accepted : sizesOk l (length 
       (lives : Living ds (then (Call.StorePointer i o slot r) now)) where
     opened-pointer : Opens stored (Call.StorePointer i o slot r) now i (held stored i o) slot (held stored i r)
     opened-pointer = store-pointer-opens now (good-after t l ws accepted cs living) i o slot r begun
-
-    pub store-pointer-slot-before : writtenBy i ds (then (Call.StorePointer i o slot r) now) ≡ 0
-        → slotOf (beside (cs ++ (Call.StorePointer i o slot r ∷ ds)) start emptyStore) (held stored i o) slot ≡ slotOf stored (held stored i o) slot
-    store-pointer-slot-before none = slot-unwritten (Call.StorePointer i o slot r) i (held stored i o) slot (held stored i r) opened-pointer ds lives none
-
-    pub store-pointer-slot-after : writtenBy i ds (then (Call.StorePointer i o slot r) now) ≡ 0 → (d : Call)
-        → writtenIn i d (run ds (then (Call.StorePointer i o slot r) now)) ≡ 1
-        → slotOf (beside (cs ++ (Call.StorePointer i o slot r ∷ (ds ++ (d ∷ [])))) start emptyStore) (held stored i o) slot ≡ held stored i r
-    store-pointer-slot-after none d h = slot-stored (Call.StorePointer i o slot r) i (held stored i o) slot (held stored i r) opened-pointer ds lives none d h
 
     pub store-pointer-moment : begunBy i ds (then (Call.StorePointer i o slot r) now) ≡ 0
         → waits (taskAt (run ds (then (Call.StorePointer i o slot r) now) .out .table) i .place) ≡ 0

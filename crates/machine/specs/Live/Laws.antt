@@ -149,13 +149,6 @@ module _ (t : Table) (ws : List ℕ) where
       (in-right p (registersOf (taskAt t i)) (filledPointers t ws (taskAt t i .pending)) (rw e (below-in t ws q f j p m k)))
 
   -- ---- what is reached
-  -- nil is not
-  pub reachable-some : {p : ℕ} → Reachable t ws p → p ≢ 0
-  reachable-some (inRegister i r l m e h) = h
-  reachable-some (inRoot r l e h) = h
-  reachable-some (inPending q i r len f j l e m k) = k .5
-  reachable-some (inSlot q j r k) = k .5
-
   reached-found : Found (pointersAt t ws) (startOf t ws) (reachedOf t ws)
   unfolding reachedOf
   reached-found = search-finds (pointersAt t ws) (length ws + 1) (few t ws) (none t ws) _ (startOf t ws) [] enough (λ p q i. absurd i)

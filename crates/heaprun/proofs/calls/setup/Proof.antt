@@ -4,8 +4,8 @@ use Prim.Native.Nat.{_≤_, _-_}
 use lib.ListN.{length}
 use native.Mathlib.Omega.{arith}
 use borrow.Author.Needs.{needs}
-use Rattle.heaprun.proofs.call.setup.Statement.{statement}
-use Rattle.heaprun.proofs.call.setup.Tie as tie
+use Rattle.heaprun.proofs.calls.setup.Statement.{statement}
+use Rattle.heaprun.proofs.calls.setup.Tie as tie
 
 size-of-requires : tie.Need-size-of-requires
 size-of-requires c κs = search needs

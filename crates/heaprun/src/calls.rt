@@ -3,6 +3,7 @@
 // lies between copies the table once more a line.
 use crate::lines::Lines;
 use crate::lines::State;
+use heap::Answer;
 use heap::Outcome;
 use heap::Table;
 use script::Said;
@@ -81,109 +82,104 @@ pub fn all_lines(words: &mut [u32], buf: &[u8], n: usize, out: &mut [u8], s: Sta
         let size = size_of(l.h);
         skip = false;
         from = e + 1;
+        if let Said::Unreadable = said {
+            used = script::write_unreadable(out, at);
+            continue;
+        }
+        if let Said::Setup(p, longest, h, k) = said {
+            let o = setup(t, words, p, longest, h, k);
+            let answer = o.answer;
+            let next = o.table;
+            t = next;
+            used = script::write_answer(answer, out, at);
+            continue;
+        }
+        if let Said::Step(task) = said {
+            let o = step(t, words, task);
+            let answer = o.answer;
+            let next = o.table;
+            t = next;
+            used = script::write_answer(answer, out, at);
+            continue;
+        }
+        let ws = &words[..size];
+        let mut answer = Answer::Done;
         match said {
-            Said::Unreadable => {
-                used = script::write_unreadable(out, at);
-            }
-            Said::Setup(p, longest, h, k) => {
-                let o = setup(t, words, p, longest, h, k);
-                let answer = o.answer;
-                let next = o.table;
-                t = next;
-                used = script::write_answer(answer, out, at);
-            }
             Said::New(task, r, len, m) => {
-                let o = heap::begin_new(t, &words[..size], task, r, len, m);
-                let answer = o.answer;
+                let o = heap::begin_new(t, ws, task, r, len, m);
                 let next = o.table;
                 t = next;
-                used = script::write_answer(answer, out, at);
+                answer = o.answer;
             }
             Said::Fill(task, w) => {
-                let o = heap::begin_fill(t, &words[..size], task, w);
-                let answer = o.answer;
+                let o = heap::begin_fill(t, ws, task, w);
                 let next = o.table;
                 t = next;
-                used = script::write_answer(answer, out, at);
+                answer = o.answer;
             }
             Said::FillPointer(task, r) => {
-                let o = heap::begin_fill_pointer(t, &words[..size], task, r);
-                let answer = o.answer;
+                let o = heap::begin_fill_pointer(t, ws, task, r);
                 let next = o.table;
                 t = next;
-                used = script::write_answer(answer, out, at);
+                answer = o.answer;
             }
             Said::Load(task, to, reg, slot) => {
-                let o = heap::load(t, &words[..size], task, to, reg, slot);
-                let answer = o.answer;
+                let o = heap::load(t, ws, task, to, reg, slot);
                 let next = o.table;
                 t = next;
-                used = script::write_answer(answer, out, at);
+                answer = o.answer;
             }
             Said::Store(task, object, slot, w) => {
-                let o = heap::begin_store(t, &words[..size], task, object, slot, w);
-                let answer = o.answer;
+                let o = heap::begin_store(t, ws, task, object, slot, w);
                 let next = o.table;
                 t = next;
-                used = script::write_answer(answer, out, at);
+                answer = o.answer;
             }
             Said::StorePointer(task, object, slot, r) => {
-                let o = heap::begin_store_pointer(t, &words[..size], task, object, slot, r);
-                let answer = o.answer;
+                let o = heap::begin_store_pointer(t, ws, task, object, slot, r);
                 let next = o.table;
                 t = next;
-                used = script::write_answer(answer, out, at);
+                answer = o.answer;
             }
             Said::Move(task, to, reg) => {
-                let o = heap::move_register(t, &words[..size], task, to, reg);
-                let answer = o.answer;
+                let o = heap::move_register(t, ws, task, to, reg);
                 let next = o.table;
                 t = next;
-                used = script::write_answer(answer, out, at);
+                answer = o.answer;
             }
             Said::Clear(task, r) => {
-                let o = heap::clear_register(t, &words[..size], task, r);
-                let answer = o.answer;
+                let o = heap::clear_register(t, ws, task, r);
                 let next = o.table;
                 t = next;
-                used = script::write_answer(answer, out, at);
+                answer = o.answer;
             }
             Said::Same(task, a, b) => {
-                let o = heap::same(t, &words[..size], task, a, b);
-                let answer = o.answer;
+                let o = heap::same(t, ws, task, a, b);
                 let next = o.table;
                 t = next;
-                used = script::write_answer(answer, out, at);
+                answer = o.answer;
             }
             Said::Put(task, root, r) => {
-                let o = heap::put_root(t, &words[..size], task, root, r);
-                let answer = o.answer;
+                let o = heap::put_root(t, ws, task, root, r);
                 let next = o.table;
                 t = next;
-                used = script::write_answer(answer, out, at);
+                answer = o.answer;
             }
             Said::Get(task, r, root) => {
-                let o = heap::get_root(t, &words[..size], task, r, root);
-                let answer = o.answer;
+                let o = heap::get_root(t, ws, task, r, root);
                 let next = o.table;
                 t = next;
-                used = script::write_answer(answer, out, at);
-            }
-            Said::Step(task) => {
-                let o = step(t, words, task);
-                let answer = o.answer;
-                let next = o.table;
-                t = next;
-                used = script::write_answer(answer, out, at);
+                answer = o.answer;
             }
             Said::Report => {
-                let o = heap::report(t, &words[..size]);
-                let answer = o.answer;
+                let o = heap::report(t, ws);
                 let next = o.table;
                 t = next;
-                used = script::write_answer(answer, out, at);
+                answer = o.answer;
             }
+            _ => {}
         }
+        used = script::write_answer(answer, out, at);
     }
     Lines {
         good: true,

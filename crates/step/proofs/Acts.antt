@@ -1,0 +1,106 @@
+-- A task's step as the machine defines it is what its act makes of the table.
+use Prim.Native.Nat.{ℕ}
+use mathlib.Core.Path.{_≡_, refl, sym, _∙_, ap}
+use mathlib.Core.List.{List}
+use mathlib.Core.Bool.{Bool, true, false}
+use lib.Dec.{ltb}
+use Rattle.table.specs.declared.Place.{Place}
+use Rattle.table.specs.declared.Place.the-variants.{Idle, New, Asked, FillWrite, FillCopy, StoreWrite, Meet, StoreCopy, Take, Read, Put, Release, Looking, Placing}
+use Rattle.table.specs.declared.Task.{Task}
+use Rattle.table.specs.declared.Table.{Table}
+use Rattle.machine.specs.Basics.{pick}
+use Rattle.machine.specs.Words.{endOf}
+use Rattle.machine.specs.Entries.{pendingOk, taskAt, no, ends}
+use Rattle.machine.specs.Tasks.{idleOf, holdingOf}
+use Rattle.machine.specs.Step.{settleOf, takeStepOf, offStepOf, onStepOf, taskStepOf}
+use Rattle.new.specs.declared.Act.{Act}
+use Rattle.new.specs.Acts.{Came, came, failing, settleAct, settled}
+use Rattle.new.proofs.Settled.{settled-pick, new-off-settles, new-on-settles}
+use Rattle.settle.specs.declared.After.{After}
+use Rattle.settle.proofs.Plain.{leaves, actAfter, plain-act}
+use Rattle.step.specs.TaskActs.{offAct, onAct, taskAct}
+
+abbrev pub offOf : Table → List ℕ → Task → Place → Came
+offOf t ws e p = offAct (t .limits) (t .marks) (endOf (t .upper) (t .limits .h)) ws e p
+
+abbrev pub onOf : Table → List ℕ → Task → Place → Came
+onOf t ws e p = onAct (t .limits) (t .marks) (endOf (t .upper) (t .limits .h)) ws e p
+
+pub off-settles : (t : Table) (ws : List ℕ) (i : ℕ) (e : Task) (p : Place) → offStepOf t ws i e p ≡ settled t i (offOf t ws e p)
+unfolding offStepOf offAct settled settleAct settleOf
+off-settles t ws i e Idle = refl
+off-settles t ws i e (New r len m) = new-off-settles t ws i r len m
+off-settles t ws i e (Asked r len m) = new-off-settles t ws i r len m
+off-settles t ws i e (FillWrite v) = refl
+off-settles t ws i e (FillCopy c) = refl
+off-settles t ws i e (StoreWrite v) = refl
+off-settles t ws i e (Meet v) = refl
+off-settles t ws i e (StoreCopy c) = refl
+off-settles t ws i e (Take n) = refl
+off-settles t ws i e (Read n x k) = refl
+off-settles t ws i e (Put n x k c) = refl
+off-settles t ws i e (Release n x k) = refl
+off-settles t ws i e (Looking p next) = refl
+off-settles t ws i e (Placing p next) = refl
+
+pub take-settles : (t : Table) (ws : List ℕ) (i : ℕ) (e : Task) (n : ℕ) → takeStepOf t ws i n ≡ settled t i (onOf t ws e (Take n))
+unfolding takeStepOf onAct settled settleAct
+take-settles t ws i e n = sym (settled-pick t i (ltb (t .marks .top) (endOf (t .upper) (t .limits .h))) _ _)
+
+pub on-settles : (t : Table) (ws : List ℕ) (i : ℕ) (e : Task) (p : Place) → onStepOf t ws i e p ≡ settled t i (onOf t ws e p)
+unfolding onStepOf onAct settled settleAct settleOf
+on-settles t ws i e Idle = refl
+on-settles t ws i e (New r len m) = new-on-settles t ws i r len m
+on-settles t ws i e (Asked r len m) = refl
+on-settles t ws i e (FillWrite v) = refl
+on-settles t ws i e (FillCopy c) = refl
+on-settles t ws i e (StoreWrite v) = refl
+on-settles t ws i e (Meet v) = refl
+on-settles t ws i e (StoreCopy c) = refl
+on-settles t ws i e (Take n) = take-settles t ws i e n
+on-settles t ws i e (Read n x k) = refl
+on-settles t ws i e (Put n x k c) = refl
+on-settles t ws i e (Release n x k) = refl
+on-settles t ws i e (Looking p next) = refl
+on-settles t ws i e (Placing p next) = refl
+
+-- a refusal
+pub refused-settles : (t : Table) (ws : List ℕ) (i n : ℕ) → ends (no t n) ws ≡ settled t i (failing n ws)
+unfolding settled settleAct settleOf
+refused-settles t ws i n = refl
+
+-- equal in each of its four cases
+pub four : {A : Type 0} (a b c : Bool) (p p₂ q q₂ r r₂ s s₂ : A) → p ≡ p₂ → q ≡ q₂ → r ≡ r₂ → s ≡ s₂ → pick a p (pick b (pick c q r) s) ≡ pick a p₂ (pick b (pick c q₂ r₂) s₂)
+four true b c p p₂ q q₂ r r₂ s s₂ e f g h = e
+four false true true p p₂ q q₂ r r₂ s s₂ e f g h = f
+four false true false p p₂ q q₂ r r₂ s s₂ e f g h = g
+four false false c p p₂ q q₂ r r₂ s s₂ e f g h = h
+
+pub settled-four : (t : Table) (i : ℕ) (a b c : Bool) (p q r s : Came) → settled t i (pick a p (pick b (pick c q r) s)) ≡ pick a (settled t i p) (pick b (pick c (settled t i q) (settled t i r)) (settled t i s))
+settled-four t i true b c p q r s = refl
+settled-four t i false true true p q r s = refl
+settled-four t i false true false p q r s = refl
+settled-four t i false false c p q r s = refl
+
+abbrev pub actOf : Table → List ℕ → ℕ → Came
+actOf t ws i = taskAct (t .on) (t .limits) (t .marks) (endOf (t .upper) (t .limits .h)) ws (taskAt t i)
+
+pub task-settles : (t : Table) (ws : List ℕ) (i : ℕ) → taskStepOf t ws i ≡ settled t i (actOf t ws i)
+unfolding taskStepOf taskAct
+task-settles t ws i =
+    four (idleOf (holdingOf (taskAt t i .place))) (pendingOk (taskAt t i .pending)) (t .on) _ _ _ _ _ _ _ _
+    (refused-settles t ws i 6)
+    (on-settles t ws i (taskAt t i) (taskAt t i .place))
+    (off-settles t ws i (taskAt t i) (taskAt t i .place))
+    (refused-settles t ws i 11)
+    ∙ sym (settled-four t i (idleOf (holdingOf (taskAt t i .place))) (pendingOk (taskAt t i .pending)) (t .on) _ _ _ _)
+
+-- a step whose act is known, settled with the table whole
+pub step-whole : (t : Table) (ws new : List ℕ) (i : ℕ) (a : Act) → came a new ≡ actOf t ws i → settleAct t i a new ≡ taskStepOf t ws i
+unfolding settled
+step-whole t ws new i a e = ap (λ x. settled t i x) e ∙ sym (task-settles t ws i)
+
+-- and one whose act is plain, by what it leaves
+pub step-plain : (t : Table) (ws new : List ℕ) (i : ℕ) (a : Act) (n : After) → came a new ≡ actOf t ws i → n ≡ actAfter t i a → n .plain ≡ true → leaves t new i n ≡ taskStepOf t ws i
+step-plain t ws new i a n e f h =
+    ap (λ k. leaves t new i k) f ∙ sym (plain-act t new i a (ap (λ k. k .plain) (sym f) ∙ h)) ∙ step-whole t ws new i a e

@@ -1,8 +1,10 @@
 // The steps of a New that is not yet claimed, off and collecting; and what a step comes to, as data.
 ghost use mathlib.Core.Path.{_≡_};
 ghost use lib.ListN.{length};
+ghost use Rattle.table.specs.declared.Deed.the-variants.{Fails};
 ghost use Rattle.machine.specs.Bounds.{Sound};
 ghost use Rattle.machine.specs.Words.{endOf};
+ghost use Rattle.new.specs.declared.Act.the-variants.{Does};
 ghost use Rattle.new.specs.Acts.{came, newOffAct, newOnAct};
 use table::Deed;
 use table::Limits;
@@ -21,6 +23,13 @@ pub enum Act {
     Denied,
     // A take that finds the stack empty.
     Drained,
+}
+
+// The act of a step that is refused.
+pub fn failing(x: Refusal) -> Act
+    ensures { λ r. ⌜ r ≡ Does (Fails x) ⌝ }
+{
+    Act::Does(Deed::Fails(x))
 }
 
 // New while the collector is off: it claims, or asks for a flip.

@@ -1,68 +1,21 @@
 -- A task's step as the machine defines it is what its act makes of the table.
-use Prim.Native.Nat.{ℕ}
 use mathlib.Core.Path.{_≡_, refl, sym, _∙_, ap}
+use Prim.Native.Nat.{ℕ}
 use mathlib.Core.List.{List}
 use mathlib.Core.Bool.{Bool, true, false}
-use lib.Dec.{ltb}
-use Rattle.table.specs.declared.Place.{Place}
-use Rattle.table.specs.declared.Place.the-variants.{Idle, New, Asked, FillWrite, FillCopy, StoreWrite, Meet, StoreCopy, Take, Read, Put, Release, Looking, Placing}
-use Rattle.table.specs.declared.Task.{Task}
 use Rattle.table.specs.declared.Table.{Table}
 use Rattle.machine.specs.Basics.{pick}
 use Rattle.machine.specs.Words.{endOf}
 use Rattle.machine.specs.Entries.{pendingOk, taskAt, no, ends}
 use Rattle.machine.specs.Tasks.{idleOf, holdingOf}
-use Rattle.machine.specs.Step.{settleOf, takeStepOf, offStepOf, onStepOf, taskStepOf}
+use Rattle.machine.specs.Step.{settleOf, taskStepOf}
 use Rattle.new.specs.declared.Act.{Act}
 use Rattle.new.specs.Acts.{Came, came, failing, settleAct, settled}
-use Rattle.new.proofs.Settled.{settled-pick, new-off-settles, new-on-settles}
 use Rattle.settle.specs.declared.After.{After}
 use Rattle.settle.proofs.Plain.{leaves, actAfter, plain-act}
-use Rattle.step.specs.TaskActs.{offAct, onAct, taskAct}
-
-abbrev pub offOf : Table → List ℕ → Task → Place → Came
-offOf t ws e p = offAct (t .limits) (t .marks) (endOf (t .upper) (t .limits .h)) ws e p
-
-abbrev pub onOf : Table → List ℕ → Task → Place → Came
-onOf t ws e p = onAct (t .limits) (t .marks) (endOf (t .upper) (t .limits .h)) ws e p
-
-pub off-settles : (t : Table) (ws : List ℕ) (i : ℕ) (e : Task) (p : Place) → offStepOf t ws i e p ≡ settled t i (offOf t ws e p)
-unfolding offStepOf offAct settled settleAct settleOf
-off-settles t ws i e Idle = refl
-off-settles t ws i e (New r len m) = new-off-settles t ws i r len m
-off-settles t ws i e (Asked r len m) = new-off-settles t ws i r len m
-off-settles t ws i e (FillWrite v) = refl
-off-settles t ws i e (FillCopy c) = refl
-off-settles t ws i e (StoreWrite v) = refl
-off-settles t ws i e (Meet v) = refl
-off-settles t ws i e (StoreCopy c) = refl
-off-settles t ws i e (Take n) = refl
-off-settles t ws i e (Read n x k) = refl
-off-settles t ws i e (Put n x k c) = refl
-off-settles t ws i e (Release n x k) = refl
-off-settles t ws i e (Looking p next) = refl
-off-settles t ws i e (Placing p next) = refl
-
-pub take-settles : (t : Table) (ws : List ℕ) (i : ℕ) (e : Task) (n : ℕ) → takeStepOf t ws i n ≡ settled t i (onOf t ws e (Take n))
-unfolding takeStepOf onAct settled settleAct
-take-settles t ws i e n = sym (settled-pick t i (ltb (t .marks .top) (endOf (t .upper) (t .limits .h))) _ _)
-
-pub on-settles : (t : Table) (ws : List ℕ) (i : ℕ) (e : Task) (p : Place) → onStepOf t ws i e p ≡ settled t i (onOf t ws e p)
-unfolding onStepOf onAct settled settleAct settleOf
-on-settles t ws i e Idle = refl
-on-settles t ws i e (New r len m) = new-on-settles t ws i r len m
-on-settles t ws i e (Asked r len m) = refl
-on-settles t ws i e (FillWrite v) = refl
-on-settles t ws i e (FillCopy c) = refl
-on-settles t ws i e (StoreWrite v) = refl
-on-settles t ws i e (Meet v) = refl
-on-settles t ws i e (StoreCopy c) = refl
-on-settles t ws i e (Take n) = take-settles t ws i e n
-on-settles t ws i e (Read n x k) = refl
-on-settles t ws i e (Put n x k c) = refl
-on-settles t ws i e (Release n x k) = refl
-on-settles t ws i e (Looking p next) = refl
-on-settles t ws i e (Placing p next) = refl
+use Rattle.act_off.proofs.Settles.{off-settles}
+use Rattle.act_on.proofs.Settles.{on-settles}
+use Rattle.step.specs.TaskActs.{taskAct}
 
 -- a refusal
 pub refused-settles : (t : Table) (ws : List ℕ) (i n : ℕ) → ends (no t n) ws ≡ settled t i (failing n ws)

@@ -1,8 +1,8 @@
--- step::off_act: each return by the tests and the calls that led to it.
-use Rattle.step.specs.TaskActs.{offAct}
+-- act_off::off_act: each return by the tests and the calls that led to it.
+use Rattle.act_off.specs.Off.{offAct}
 use borrow.Author.Needs.{needs}
-use Rattle.step.proofs.off_act.Statement.{statement}
-use Rattle.step.proofs.off_act.Tie as tie
+use Rattle.act_off.proofs.off_act.Statement.{statement}
+use Rattle.act_off.proofs.off_act.Tie as tie
 
 enum-told : tie.Need-enum-told
 enum-told c = search needs

@@ -1,9 +1,9 @@
--- step::on_act: each return by the tests and the calls that led to it.
-use Rattle.step.specs.TaskActs.{onAct}
+-- act_on::on_act: each return by the tests and the calls that led to it.
+use Rattle.act_on.specs.On.{onAct}
 use borrow.Author.Tests.{lt-ltb, le-ltb}
 use borrow.Author.Needs.{needs}
-use Rattle.step.proofs.on_act.Statement.{statement}
-use Rattle.step.proofs.on_act.Tie as tie
+use Rattle.act_on.proofs.on_act.Statement.{statement}
+use Rattle.act_on.proofs.on_act.Tie as tie
 
 enum-told : tie.Need-enum-told
 enum-told c = search needs
@@ -67,13 +67,7 @@ same-length c = search needs
 
 returns : tie.Need-returns
 unfolding onAct
-returns c =
-    rw (
-      c .before .before .before .before .before .before .before .before .place7 .given .1,
-      ← (c .before .before .before .before .before .before .end-of .ensures .0),
-      lt-ltb _ _ (c .before .before .before .before .if1 .taken),
-      ← (c .before .before .take .ensures),
-    )
+returns c = rw (c .before .before .before .before .before .before .before .before .place7 .given .1, ← (c .before .before .before .before .before .before .end-of .ensures .0), lt-ltb _ _ (c .before .before .before .before .if1 .taken), ← (c .before .before .take .ensures))
 
 enum-known-place-8 : tie.Need-enum-known-place-8
 enum-known-place-8 c = search needs
@@ -110,150 +104,92 @@ place-step-requires c κs = search needs
 
 returns-2 : tie.Need-returns-2
 unfolding onAct
-returns-2 c =
-    rw (
-      c .before .enum-told .given .1,
-      c .failing .ensures,
-    )
+returns-2 c = rw (c .before .enum-told .given .1, c .failing .ensures)
 
 same-length-2 : tie.Need-same-length-2
 same-length-2 c = search needs
 
 returns-3 : tie.Need-returns-3
 unfolding onAct
-returns-3 c =
-    rw (
-      c .before .before .before .before .before .place .given .1,
-      ← (c .before .before .new-on .ensures),
-    )
+returns-3 c = rw (c .before .before .before .before .before .place .given .1, ← (c .before .before .new-on .ensures))
 
 returns-4 : tie.Need-returns-4
 unfolding onAct
-returns-4 c =
-    rw (
-      c .before .enum-told2 .given .1,
-      c .failing2 .ensures,
-    )
+returns-4 c = rw (c .before .enum-told2 .given .1, c .failing2 .ensures)
 
 same-length-3 : tie.Need-same-length-3
 same-length-3 c = search needs
 
 returns-5 : tie.Need-returns-5
 unfolding onAct
-returns-5 c =
-    rw (
-      c .before .before .before .before .before .place2 .given .1,
-      ← (c .before .before .fill-write .ensures),
-    )
+returns-5 c = rw (c .before .before .before .before .before .place2 .given .1, ← (c .before .before .fill-write .ensures))
 
 same-length-4 : tie.Need-same-length-4
 same-length-4 c = search needs
 
 returns-6 : tie.Need-returns-6
 unfolding onAct
-returns-6 c =
-    rw (
-      c .before .before .before .before .before .place3 .given .1,
-      ← (c .before .before .fill-copy .ensures),
-    )
+returns-6 c = rw (c .before .before .before .before .before .place3 .given .1, ← (c .before .before .fill-copy .ensures))
 
 same-length-5 : tie.Need-same-length-5
 same-length-5 c = search needs
 
 returns-7 : tie.Need-returns-7
 unfolding onAct
-returns-7 c =
-    rw (
-      c .before .before .before .before .before .place4 .given .1,
-      ← (c .before .before .store-write .ensures),
-    )
+returns-7 c = rw (c .before .before .before .before .before .place4 .given .1, ← (c .before .before .store-write .ensures))
 
 same-length-6 : tie.Need-same-length-6
 same-length-6 c = search needs
 
 returns-8 : tie.Need-returns-8
 unfolding onAct
-returns-8 c =
-    rw (
-      c .before .before .before .place5 .given .1,
-      ← (c .meet .ensures),
-    )
+returns-8 c = rw (c .before .before .before .place5 .given .1, ← (c .meet .ensures))
 
 same-length-7 : tie.Need-same-length-7
 same-length-7 c = search needs
 
 returns-9 : tie.Need-returns-9
 unfolding onAct
-returns-9 c =
-    rw (
-      c .before .before .before .before .before .place6 .given .1,
-      ← (c .before .before .store-copy .ensures),
-    )
+returns-9 c = rw (c .before .before .before .before .before .place6 .given .1, ← (c .before .before .store-copy .ensures))
 
 returns-10 : tie.Need-returns-10
 unfolding onAct
-returns-10 c =
-    rw (
-      c .before .before .before .before .place7 .given .1,
-      ← (c .before .before .end-of .ensures .0),
-      le-ltb _ _ (c .if1 .left),
-    )
+returns-10 c = rw (c .before .before .before .before .place7 .given .1, ← (c .before .before .end-of .ensures .0), le-ltb _ _ (c .if1 .left))
 
 same-length-8 : tie.Need-same-length-8
 same-length-8 c = search needs
 
 returns-11 : tie.Need-returns-11
 unfolding onAct
-returns-11 c =
-    rw (
-      c .before .before .before .place8 .given .1,
-      ← (c .read .ensures),
-    )
+returns-11 c = rw (c .before .before .before .place8 .given .1, ← (c .read .ensures))
 
 same-length-9 : tie.Need-same-length-9
 same-length-9 c = search needs
 
 returns-12 : tie.Need-returns-12
 unfolding onAct
-returns-12 c =
-    rw (
-      c .before .before .before .before .before .place9 .given .1,
-      ← (c .before .before .put .ensures),
-    )
+returns-12 c = rw (c .before .before .before .before .before .place9 .given .1, ← (c .before .before .put .ensures))
 
 same-length-10 : tie.Need-same-length-10
 same-length-10 c = search needs
 
 returns-13 : tie.Need-returns-13
 unfolding onAct
-returns-13 c =
-    rw (
-      c .before .before .before .before .before .place10 .given .1,
-      ← (c .before .before .release .ensures),
-    )
+returns-13 c = rw (c .before .before .before .before .before .place10 .given .1, ← (c .before .before .release .ensures))
 
 same-length-11 : tie.Need-same-length-11
 same-length-11 c = search needs
 
 returns-14 : tie.Need-returns-14
 unfolding onAct
-returns-14 c =
-    rw (
-      c .before .before .before .before .before .place11 .given .1,
-      ← (c .before .before .look-step .ensures),
-    )
+returns-14 c = rw (c .before .before .before .before .before .place11 .given .1, ← (c .before .before .look-step .ensures))
 
 same-length-12 : tie.Need-same-length-12
 same-length-12 c = search needs
 
 returns-15 : tie.Need-returns-15
 unfolding onAct
-returns-15 c =
-    rw (
-      c .before .before .before .before .before .before .place12 .given .1,
-      ← (c .before .before .before .before .end-of2 .ensures .0),
-      ← (c .before .before .place-step .ensures),
-    )
+returns-15 c = rw (c .before .before .before .before .before .before .place12 .given .1, ← (c .before .before .before .before .end-of2 .ensures .0), ← (c .before .before .place-step .ensures))
 
 pub on-act-spec : {M : Type 1} → statement M
 on-act-spec =

@@ -31,12 +31,12 @@ fn wait(t: Table, w: Sought) -> Outcome
     let l = t.limits;
     let ts = t.tasks;
     let f = tasks::seek(ts, l.p as usize, w);
-    let Found::At(q) = f else {
+    let Found::At(holder) = f else {
         return entries::refused(t, Refusal::Damaged);
     };
     Outcome {
         table: t,
-        answer: Answer::Wait(q),
+        answer: Answer::Wait(holder),
     }
 }
 

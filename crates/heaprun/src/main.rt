@@ -1,5 +1,5 @@
 // heaprun: reads all of standard input in blocks, answers each line, and writes the answers in blocks.
-mod call;
+mod calls;
 mod lines;
 
 fn main() {

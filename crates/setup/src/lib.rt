@@ -3,7 +3,7 @@ ghost use mathlib.Core.Path.{_≡_};
 ghost use Prim.Native.Nat.{ℕ, _≤_};
 ghost use lib.ListN.{length, replicate};
 ghost use Rattle.machine.specs.Entries.{ends};
-ghost use Rattle.machine.specs.Setup.{limits, freshTable, unset as unsetTable};
+ghost use Rattle.machine.specs.Setup.{limits, freshTask, freshTable, unset as unsetTable};
 ghost use Rattle.machine.specs.Call.{Call};
 ghost use Rattle.machine.specs.Calls.{Meets, MeetsSetup};
 use table::Answer;
@@ -31,18 +31,33 @@ fn clear(words: &mut [u32])
     }
 }
 
-// The table of an accepted set-up.
-fn fresh(l: Limits) -> Table
-    requires { ⌜ l .h ≤ 8190 ⌝ }
-    ensures { λ r. ⌜ r ≡ freshTable l ⌝ }
+// Eight idle tasks, the first n of them set one by one. (It calls itself so that it stays a call of its own in the
+// compiled program: written out there, entry by entry, it takes apart every table that the line loop copies.)
+fn idle_tasks(n: usize) -> [Task; 8]
+    requires { ⌜ n ≤ 8 ⌝ }
+    ensures { λ r. ⌜ r ≡ replicate 8 freshTask ⌝ }
 {
-    let h = l.h;
     let e = Task {
         regs: [Primary(0); 8],
         pending: Pending::Nothing,
         storing: Storing::Nowhere,
         place: Place::Idle,
     };
+    if 0 < n {
+        let mut ts = idle_tasks(n - 1);
+        ts[n - 1] = e;
+        return ts;
+    }
+    [e; 8]
+}
+
+// The table of an accepted set-up.
+fn fresh(l: Limits) -> Table
+    requires { ⌜ l .h ≤ 8190 ⌝ }
+    ensures { λ r. ⌜ r ≡ freshTable l ⌝ }
+{
+    let h = l.h;
+    let ts = idle_tasks(8);
     Table {
         limits: l,
         upper: false,
@@ -55,7 +70,7 @@ fn fresh(l: Limits) -> Table
         },
         life: Life::Living,
         roots: [Primary(0); 8],
-        tasks: [e; 8],
+        tasks: ts,
     }
 }
 

@@ -211,7 +211,7 @@ fn with_pointer(regs: [Primary; 8], r: u32, p: Primary) -> [Primary; 8]
 }
 
 // The task idle; a pending object with all its slots filled goes to its register.
-fn ended_entry(e: Task, pending: Pending) -> Task
+pub fn ended_entry(e: Task, pending: Pending) -> Task
     ensures { λ r. ⌜ r ≡ endedEntry (e .regs) pending ⌝ }
 {
     let regs = e.regs;

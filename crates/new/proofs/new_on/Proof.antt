@@ -1,6 +1,6 @@
 -- new::new_on: each return by the tests and the calls that led to it.
 use native.Mathlib.Omega.{arith}
-use Rattle.machine.specs.New.{newOnOf}
+use Rattle.new.specs.Acts.{newOnAct}
 use Rattle.look.proofs.Laid.{length-laid}
 use borrow.Author.Needs.{needs}
 use Rattle.new.proofs.new_on.Statement.{statement}
@@ -13,16 +13,16 @@ new-ok-requires : tie.Need-new-ok-requires
 new-ok-requires c κs = search needs
 
 add-room-for : tie.Need-add-room-for
-add-room-for c = let f = rw (c .if1 .taken) at (c .before .new-ok .ensures .1) in omega (arith, f .1, c .before .before .before .before .before .before .pre .0 .sized .limited .s-high)
+add-room-for c = let f = rw (c .if1 .taken) at (c .before .new-ok .ensures .1) in omega (arith, f .1, c .before .before .before .before .pre .sized .limited .s-high)
 
 mul-room-for : tie.Need-mul-room-for
-mul-room-for c = let f = rw (c .if1 .taken) at (c .before .new-ok .ensures .1) in omega (arith, f .1, c .before .before .before .before .before .before .pre .0 .sized .limited .s-high)
+mul-room-for c = let f = rw (c .if1 .taken) at (c .before .new-ok .ensures .1) in omega (arith, f .1, c .before .before .before .before .pre .sized .limited .s-high)
 
 room-for-requires : tie.Need-room-for-requires
 room-for-requires c κs = search needs
 
 descriptor-of-requires : tie.Need-descriptor-of-requires
-descriptor-of-requires c κs = let f = rw (c .before .before .if1 .taken) at (c .before .before .before .new-ok .ensures .1) in (omega (arith, f .1, c .before .before .before .before .before .before .before .before .pre .0 .sized .limited .s-high), f .2)
+descriptor-of-requires c κs = let f = rw (c .before .before .if1 .taken) at (c .before .before .before .new-ok .ensures .1) in (omega (arith, f .1, c .before .before .before .before .before .before .pre .sized .limited .s-high), f .2)
 
 cast-lay : tie.Need-cast-lay
 cast-lay c = search needs
@@ -34,7 +34,7 @@ add-lay-2 : tie.Need-add-lay-2
 add-lay-2 c = search needs
 
 lay-requires : tie.Need-lay-requires
-lay-requires c κs = let g = rw (c .before .before .if2 .taken) at (c .before .before .before .room-for .ensures .1) in omega (arith, g, c .before .before .before .before .before .before .before .before .before .before .pre .0 .fits .inside, c .before .before .before .before .before .before .end-of .ensures .0)
+lay-requires c κs = let g = rw (c .before .before .if2 .taken) at (c .before .before .before .room-for .ensures .1) in omega (arith, g, c .before .before .before .before .before .before .before .before .pre .fits .inside, c .before .before .before .before .before .before .end-of .ensures .0)
 
 add-lay-3 : tie.Need-add-lay-3
 add-lay-3 c = search needs
@@ -46,55 +46,59 @@ cast-lay-2 : tie.Need-cast-lay-2
 cast-lay-2 c = search needs
 
 lay-requires-2 : tie.Need-lay-requires-2
-lay-requires-2 c κs = let g = rw (c .before .before .before .before .before .before .if2 .taken) at (c .before .before .before .before .before .before .before .room-for .ensures .1) in rw (c .before .before .before .lay .ensures, length-laid (c .before .before .before .before .before .before .before .before .before .before .before .before .before .before .args .words .now)) (omega (arith, g, c .before .before .before .before .before .before .before .before .before .before .before .before .before .before .pre .0 .fits .inside, c .before .before .before .before .before .before .before .before .before .before .end-of .ensures .0))
+lay-requires-2 c κs = let g = rw (c .before .before .before .before .before .before .if2 .taken) at (c .before .before .before .before .before .before .before .room-for .ensures .1) in rw (c .before .before .before .lay .ensures, length-laid (c .before .before .before .before .before .before .before .before .before .before .before .before .args .words .now)) (omega (arith, g, c .before .before .before .before .before .before .before .before .before .before .before .before .pre .fits .inside, c .before .before .before .before .before .before .before .before .before .before .end-of .ensures .0))
 
-add-t27 : tie.Need-add-t27
-add-t27 c = search needs
+add-t22 : tie.Need-add-t22
+add-t22 c = search needs
 
-mul-t26 : tie.Need-mul-t26
-mul-t26 c = search needs
+mul-t21 : tie.Need-mul-t21
+mul-t21 c = search needs
 
-add-t31 : tie.Need-add-t31
-add-t31 c = search needs
+add-t25 : tie.Need-add-t25
+add-t25 c = search needs
 
-add-t36 : tie.Need-add-t36
-add-t36 c = search needs
+add-t30 : tie.Need-add-t30
+add-t30 c = search needs
 
-mul-t39 : tie.Need-mul-t39
-mul-t39 c = search needs
-
-moved-table-requires : tie.Need-moved-table-requires
-moved-table-requires c κs = search needs
+mul-t33 : tie.Need-mul-t33
+mul-t33 c = search needs
 
 same-length : tie.Need-same-length
 same-length c = search needs
 
 returns : tie.Need-returns
-unfolding newOnOf
-returns c = rw (← (c .before .before .before .before .before .before .before .before .before .before .before .before .before .before .new-ok .ensures .0), c .before .before .before .before .before .before .before .before .before .before .before .before .before .if1 .taken, ← (c .before .before .before .before .before .before .before .before .before .before .before .before .before .before .before .end-of .ensures .0), ← (c .before .before .before .before .before .before .before .before .before .before .before .before .room-for .ensures .0), c .before .before .before .before .before .before .before .before .before .before .before .if2 .taken, ← (c .before .before .before .before .before .before .before .before .before .before .descriptor-of .ensures), ← (c .before .before .before .before .before .before .before .before .lay .ensures), ← (c .before .before .before .before .lay2 .ensures), c .moved-table .ensures)
-
-mul-e : tie.Need-mul-e
-mul-e c = search needs
-
-element-copy-out-e : tie.Need-element-copy-out-e
-element-copy-out-e c = search needs
-
-finish-requires : tie.Need-finish-requires
-finish-requires c κs = search needs
-
-same-length-2 : tie.Need-same-length-2
-same-length-2 c = search needs
+unfolding newOnAct
+returns c =
+    rw (
+      ← (c .before .before .before .before .before .before .before .before .before .before .before .before .before .before .end-of .ensures .0),
+      ← (c .before .before .before .before .before .before .before .before .before .before .before .before .before .new-ok .ensures .0),
+      c .before .before .before .before .before .before .before .before .before .before .before .before .if1 .taken,
+      ← (c .before .before .before .before .before .before .before .before .before .before .before .room-for .ensures .0),
+      c .before .before .before .before .before .before .before .before .before .before .if2 .taken,
+      ← (c .before .before .before .before .before .before .before .before .before .descriptor-of .ensures),
+      ← (c .before .before .before .before .before .before .before .lay .ensures),
+      ← (c .before .before .before .lay2 .ensures),
+    )
 
 returns-2 : tie.Need-returns-2
-unfolding newOnOf
-returns-2 c = rw (← (c .before .before .before .before .before .before .new-ok .ensures .0), c .before .before .before .before .before .if1 .taken, ← (c .before .before .before .before .before .before .before .end-of .ensures .0), ← (c .before .before .before .before .room-for .ensures .0), c .before .before .before .if2 .left) (c .finish .ensures)
-
-refused-requires : tie.Need-refused-requires
-refused-requires c κs = search needs
+unfolding newOnAct
+returns-2 c =
+    rw (
+      ← (c .before .before .before .before .end-of .ensures .0),
+      ← (c .before .before .before .new-ok .ensures .0),
+      c .before .before .if1 .taken,
+      ← (c .before .room-for .ensures .0),
+      c .if2 .left,
+    )
 
 returns-3 : tie.Need-returns-3
-unfolding newOnOf
-returns-3 c = rw (← (c .before .before .new-ok .ensures .0), c .before .if1 .left, c .refused .ensures)
+unfolding newOnAct
+returns-3 c =
+    rw (
+      ← (c .before .before .end-of .ensures .0),
+      ← (c .before .new-ok .ensures .0),
+      c .if1 .left,
+    )
 
 pub new-on-spec : {M : Type 1} → statement M
 new-on-spec =
@@ -114,18 +118,12 @@ new-on-spec =
     add-lay-4
     cast-lay-2
     lay-requires-2
-    add-t27
-    mul-t26
-    add-t31
-    add-t36
-    mul-t39
-    moved-table-requires
+    add-t22
+    mul-t21
+    add-t25
+    add-t30
+    mul-t33
     same-length
     returns
-    mul-e
-    element-copy-out-e
-    finish-requires
-    same-length-2
     returns-2
-    refused-requires
     returns-3)

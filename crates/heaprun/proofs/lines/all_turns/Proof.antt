@@ -1,5 +1,5 @@
 -- heaprun::all_turns: the loop by its invariant; each return by the tests and the calls that led to it.
-use Prim.Native.Nat.{_≤_, _-_}
+use Prim.Native.Nat.{_≤_, _<_, _-_}
 use mathlib.Core.Path.{_≡_}
 use lib.ListN.{length}
 use borrow.Author.Needs.{needs}
@@ -7,7 +7,7 @@ use Rattle.heaprun.proofs.lines.all_turns.Statement.{statement}
 use Rattle.heaprun.proofs.lines.all_turns.Tie as tie
 
 abbrev Inv-loop : tie.InvT-loop
-Inv-loop words₀ buf₀ out₀ u₀ turns₀ words buf out u turns = (u .have ≤ length buf) × (u .used ≤ length out) × (length buf ≡ length buf₀) × (length out ≡ length out₀) × (length words ≡ length words₀)
+Inv-loop words₀ buf₀ out₀ u₀ turns₀ words buf out u turns = (u .have < length buf) × (u .used ≤ length out) × (length buf ≡ length buf₀) × (length out ≡ length out₀) × (length words ≡ length words₀)
 
 abbrev μ-loop : tie.MeasureT-loop
 μ-loop words₀ buf₀ out₀ u₀ turns₀ words buf out u turns = turns

@@ -25,6 +25,11 @@ pub mod Waits
 pub mod Changes
 pub mod StepChanges
 pub mod Fair
+pub mod Seeks
+pub mod WaitsFor
+pub mod Grey
+pub mod Reasons
+pub mod HeldBegins
 pub mod Others
 pub mod Moment
 pub mod OneStep
@@ -35,6 +40,7 @@ pub mod Steps
 pub mod Start
 pub mod Run
 pub mod Demand2
+pub mod Exact
 pub mod Collecting
 pub mod Histories
 pub mod Stands

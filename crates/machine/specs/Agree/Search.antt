@@ -70,7 +70,7 @@ none ts p w e i l = go (decLt i (length ts))
     go (no m) = rw (List·getD-eq-default ts noTask {n = i} (omega (arith, m))) (rests w i)
 
 -- ---- sums and lists
-sum-pos : (n : ℕ) (f : ℕ → ℕ) → 0 < sumTo n f → (u : ℕ) × (u < n) × (0 < f u)
+pub sum-pos : (n : ℕ) (f : ℕ → ℕ) → 0 < sumTo n f → (u : ℕ) × (u < n) × (0 < f u)
 unfolding sumTo
 sum-pos zero f l = absurd (omega arith)
 sum-pos (suc n) f l = go (decLt 0 (f n)) (sum-pos n f)
@@ -94,7 +94,7 @@ module _ {K : ℕ → Type 0} {pa ra : ℕ → ℕ} {o : State} {t : Table} {ws 
   task-at : (i : ℕ) → i < t .limits .p → taskAt t i ≡ atTask pa ra (o .tasks i)
   task-at i l = k .tasks i (omega (arith, k .sized .limited .p-high))
 
-  sought-at : (w : Sought) (i : ℕ) → i < t .limits .p → soughtTask w i (taskAt t i) ≡ soughtOf w i (held i)
+  pub sought-at : (w : Sought) (i : ℕ) → i < t .limits .p → soughtTask w i (taskAt t i) ≡ soughtOf w i (held i)
   sought-at w i l = rw (task-at i l) (ap (soughtOf w i) (holding-at pa ra (o .tasks i .place)))
 
   waits : (w : Sought) (u : ℕ) → u < t .limits .p → soughtOf w u (held u) ≡ true → (q : ℕ) × (waitOf t w ≡ out t (Wait q))

@@ -51,7 +51,7 @@ abbrev FairAct : Place → Acted → Type 0
 FairAct before x = Fair before (x .deed)
 
 -- what holds with the replica, and without, holds of the look
-forwarded-all : {A : Type 0} (P : A → Type 0) (l : Look) (f : Replica → ℕ → A) (a : A) → ((r : Replica) (len : ℕ) → P (f r len)) → P a → P (ifForwarded l f a)
+pub forwarded-all : {A : Type 0} (P : A → Type 0) (l : Look) (f : Replica → ℕ → A) (a : A) → ((r : Replica) (len : ℕ) → P (f r len)) → P a → P (ifForwarded l f a)
 forwarded-all P (White len) f a p q = q
 forwarded-all P Claimed f a p q = q
 forwarded-all P (Forwarded r len) f a p q = p r len

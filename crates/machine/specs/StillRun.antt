@@ -2,7 +2,7 @@
 use Prim.Native.Nat.{ℕ, zero, suc}
 use mathlib.Core.Path.{_≡_, refl}
 use mathlib.Core.List.{List, [], _∷_, _++_}
-use mathlib.Core.Bool.{false}
+use mathlib.Core.Bool.{true, false}
 use Rattle.table.specs.declared.Refusal.the-variants.{Held}
 use Rattle.table.specs.declared.Answer.the-variants.{Value, Wait, Report, No}
 use Rattle.machine.specs.Entries.{Ends}
@@ -94,10 +94,13 @@ lathe :
 unfolding opened heapAfter storeAfter beside happenAll loadAnswer ended turned axle dropped
 lathe = (refl, refl, refl)
 
--- The second collection: the Store waits for the holder of its slot; nothing is begun while closing; two switch-overs are over.
+-- The second collection: it is on after the first switch-over, the Store waits for the holder of its slot, nothing is begun
+-- while closing, and the second switch-over comes.
 lathe-again :
-    (then (Call.Step 0) (heapAfter turnedAgain) .out .answer ≡ Wait 1)
+    (then Call.Report (heapAfter ended) .out .answer ≡ Report false 22 4)
+    × (then Call.Report (heapAfter turnedAgain) .out .answer ≡ Report true 25 1)
+    × (then (Call.Step 0) (heapAfter turnedAgain) .out .answer ≡ Wait 1)
     × (then (Call.Store 0 0 1 4) (heapAfter closing) .out .answer ≡ No Held)
     × (then Call.Report (heapAfter again) .out .answer ≡ Report false 25 4)
 unfolding opened heapAfter again closing turnedAgain small ended turned axle dropped
-lathe-again = (refl, refl, refl)
+lathe-again = (refl, refl, refl, refl, refl)

@@ -16,6 +16,7 @@ use Rattle.machine.specs.Basics.{pick}
 use Rattle.machine.specs.Tasks.{holdingOf, idleOf, asksOf, worksOf, soughtOf, seekOf, some, greyOf, closingOf, heldOf}
 use Rattle.machine.specs.Begin.{heldAt}
 use Rattle.machine.specs.StillStore.{Store}
+use Rattle.machine.specs.History.{History}
 use Rattle.machine.specs.Objects.Base.{off-on}
 use Rattle.machine.specs.Objects.State.{ClaimIn, jobsIn}
 use Rattle.machine.specs.Agree.Agree.{end}
@@ -49,7 +50,7 @@ works-none pa (Job y i) j c = absurd (omega arith)
 works-none pa (Claim p) j c = absurd (c (p .0) refl)
 works-none pa (Both p y i) j c = absurd (omega arith)
 
-module _ {l : Limits} {w : Store} {t : Table} {ws : List ℕ} (g : Good l w t ws) where
+module _ {l : Limits} {w : Store} {hy : History} {t : Table} {ws : List ℕ} (g : Good l w hy t ws) where
   holds-at : (q : ℕ) → q < t .limits .p → holds t q ≡ atHolding (g .pa) (holdingOf (g .objects .tasks q .place))
   holds-at q qp =
       rw (g .agree .tasks q (omega (arith, qp, g .agree .sized .limited .p-high))) (holding-at (g .pa) (g .ra) (g .objects .tasks q .place))

@@ -29,6 +29,7 @@ use Rattle.machine.specs.Begin.{heldAt, begun, newOk, ifNothing, beginNe
 use Rattle.machine.specs.Call.{Call}
 use Rattle.machine.specs.Calls.{call}
 use Rattle.machine.specs.StillStore.{Store}
+use Rattle.machine.specs.History.{History}
 use Rattle.machine.specs.Objects.Base.{clash}
 use Rattle.machine.specs.Agree.Gates.{call-gate, pair-gate}
 use Rattle.machine.specs.Beside.Good.{Good}
@@ -97,7 +98,7 @@ module _ (t : Table) where
           (λ a. store-slot ws task x slot v (objectOf ws (t .limits .s) x))
 
 -- behind the gate, whose refusals are 2 and 3
-module _ {l : Limits} {w : Store} {t : Table} {ws : List ℕ} (g : Good l w t ws) (task : ℕ) where
+module _ {l : Limits} {w : Store} {hy : History} {t : Table} {ws : List ℕ} (g : Good l w hy t ws) (task : ℕ) where
   gated : (o : Outcome) → Right t o → Right t (through (callGate t ws task) t o)
   gated o r = rw (call-gate (g .agree) (g .long) task) (on (ltb task (t .limits .p)))
     where
@@ -130,7 +131,7 @@ Begins (Call.Get task r root) = ⊥
 Begins (Call.Step task) = ⊥
 Begins Call.Report = ⊥
 
-module _ {l : Limits} {w : Store} {t : Table} {ws : List ℕ} (g : Good l w t ws) where
+module _ {l : Limits} {w : Store} {hy : History} {t : Table} {ws : List ℕ} (g : Good l w hy t ws) where
   new-right : (task r len m : ℕ) → Right t (beginNewOf t ws task r len m)
   unfolding beginNewOf
   new-right task r len m =

@@ -1,9 +1,9 @@
--- The reasons for what a step answers: a payment ends early only if nothing is grey; 9 and a flip come only for want of room.
-use Prim.Native.Nat.{ℕ, _+_, _-_, _*_, _<_}
+-- The reasons for what a step answers: a payment ends early only if nothing is grey; a flip is made only for want of room.
+use Prim.Native.Nat.{ℕ, _+_, _-_, _<_}
 use mathlib.Core.Path.{_≡_, refl, sym, _∙_}
 use mathlib.Core.Logic.{_⊎_, inl, inr}
 use mathlib.Core.List.{List}
-use mathlib.Core.Bool.{Bool, true, false}
+use mathlib.Core.Bool.{true, false}
 use lib.ListN.{getD, take}
 use lib.Dec.{ltb, leb, eqb}
 use borrow.Author.Tests.{leb-false}
@@ -17,7 +17,6 @@ use Rattle.table.specs.declared.Table.{Table}
 use Rattle.table.specs.declared.Copying.{Copying}
 use Rattle.table.specs.declared.Copying.the-variants.{Count, Locked, Neither}
 use Rattle.table.specs.declared.Refusal.{Refusal}
-use Rattle.table.specs.declared.Refusal.the-variants.{NoRoom}
 use Rattle.table.specs.declared.Sought.{Sought}
 use Rattle.table.specs.declared.Sought.the-variants.{Worker}
 use Rattle.table.specs.declared.Found.{Found}
@@ -29,7 +28,7 @@ use Rattle.table.specs.declared.Gate.the-variants.{Open, Shut}
 use Rattle.table.specs.declared.Answer.{Answer}
 use Rattle.table.specs.declared.Answer.the-variants.{Done, Moved, No}
 use Rattle.table.specs.declared.Outcome.{Outcome}
-use Rattle.machine.specs.Basics.{pick, allOf}
+use Rattle.machine.specs.Basics.{allOf}
 use Rattle.machine.specs.Numbers.{refusal}
 use Rattle.machine.specs.Words.{primary, lookOf, copyingOf, roomFor}
 use Rattle.machine.specs.Entries.{taskAt, pendingOk, ends}
@@ -41,12 +40,12 @@ use Rattle.machine.specs.Begin.{newOk}
 use Rattle.machine.specs.Deeds.{Acted}
 use Rattle.machine.specs.Pay.{takeCount, takeIn, takeOf}
 use Rattle.machine.specs.Switch.{hasReplica, entryHasReplicas, switchOf, switchDue, endedTable, finishOf}
-use Rattle.machine.specs.New.{newOffOf, newOnOf}
+use Rattle.machine.specs.New.{newOffOf}
 use Rattle.machine.specs.Step.{waitFor, waitOf, settleOf, emptyTakeOf, takeStepOf, offStepOf, onStepOf, placeStepOr, taskStepOf, stepThrough, stepOf}
 use Rattle.machine.specs.StillStore.{Store}
+use Rattle.machine.specs.History.{History}
 use Rattle.machine.specs.Objects.Base.{clash, off-on}
 use Rattle.machine.specs.Agree.Agree.{end}
-use Rattle.machine.specs.Agree.Gates.{call-gate}
 use Rattle.machine.specs.Beside.Good.{Good}
 use Rattle.machine.specs.Beside.Changes.{pick-all}
 use Rattle.machine.specs.Beside.Fair.{forwarded-all}
@@ -114,7 +113,7 @@ module _ (t : Table) (i : ℕ) (G : Type 0) where
   endless (Waits w) ws h e = waited w ws e
   endless (Fails x) ws h e = refusal-done x e
 
-module _ {l : Limits} {w : Store} {t : Table} {ws : List ℕ} (g : Good l w t ws) (i n : ℕ) (pe : taskAt t i .place ≡ Take n) where
+module _ {l : Limits} {w : Store} {hy : History} {t : Table} {ws : List ℕ} (g : Good l w hy t ws) (i n : ℕ) (pe : taskAt t i .place ≡ Take n) where
   take-shows : Shows Done (NothingGrey t) (takeStepOf t ws i n)
   unfolding takeStepOf emptyTakeOf
   take-shows =
@@ -129,7 +128,7 @@ module _ {l : Limits} {w : Store} {t : Table} {ws : List ℕ} (g : Good l w t ws
   ends-early =
       by-step t ws i Done (NothingGrey t) (λ y e. refusal-done y) (refusal-done (refusal 6)) (refusal-done (refusal 11)) (Take n) pe (λ e. take-shows) (λ e. refusal-done (refusal 11))
 
--- ---- 9, and the flip
+-- ---- the flip
 -- an end answers what it was to answer, or 11
 module _ (t : Table) (i : ℕ) (x : Answer) (G : Type 0) (damaged : No (refusal 11) ≡ x → G) where
   ended : (ws : List ℕ) (m : Marks) (d : Pending) (y : Answer) → (y ≡ x → G) → Shows x G (finishOf t ws i m d y)
@@ -144,10 +143,7 @@ module _ (t : Table) (i : ℕ) (x : Answer) (G : Type 0) (damaged : No (refusal 
       (λ a. damaged))
       (λ due. h)
 
--- less room than a New of this length needs: while collecting, and while off
-abbrev pub TooFull : Table → ℕ → Type 0
-TooFull t len = t .marks .top - t .marks .a - t .marks .j < 2 * (len + 2)
-
+-- less room than a New of this length needs while off
 abbrev pub NoneLeft : Table → ℕ → Type 0
 NoneLeft t len = end t - t .marks .a < len + 2
 
@@ -155,16 +151,6 @@ unmoved : {G : Type 0} {y : Refusal} → No y ≡ Moved → G
 unmoved e = let z : _≡_ {A = ℕ} 0 1 = cc in clash z
 
 module _ (t : Table) (ws : List ℕ) (i r len m : ℕ) where
-  new-shows : Shows (No NoRoom) (TooFull t len) (newOnOf t ws i r len m)
-  unfolding newOnOf roomFor
-  new-shows =
-      pick-all (Shows (No NoRoom) (TooFull t len)) (newOk (t .limits .s) r len m) _ _
-      (λ e.
-      pick-all (Shows (No NoRoom) (TooFull t len)) (leb (2 * (len + 2)) (t .marks .top - t .marks .a - t .marks .j)) _ _
-      (λ f h. let z : _≡_ {A = ℕ} 0 1 = cc in clash z)
-      (λ f h. leb-false _ _ f))
-      (λ e h. let z : _≡_ {A = ℕ} 0 1 = cc in clash z)
-
   off-shows : Shows Moved (NoneLeft t len) (newOffOf t ws i r len m)
   unfolding newOffOf roomFor
   off-shows =
@@ -180,14 +166,3 @@ module _ (t : Table) (ws : List ℕ) (i r len m : ℕ) where
   unfolding offStepOf
   flips-for-room off (inl e) = by-step t ws i Moved (NoneLeft t len) (λ y f h. unmoved h) unmoved unmoved (New r len m) e (λ f. off-on (sym off ∙ f)) (λ f. off-shows)
   flips-for-room off (inr e) = by-step t ws i Moved (NoneLeft t len) (λ y f h. unmoved h) unmoved unmoved (Asked r len m) e (λ f. off-on (sym off ∙ f)) (λ f. off-shows)
-
-  pub nine-for-room : {l : Limits} {w : Store} → Good l w t ws → t .on ≡ true → taskAt t i .place ≡ New r len m → stepOf t ws i .out .answer ≡ No NoRoom → TooFull t len
-  unfolding onStepOf
-  nine-for-room g on e =
-      by-step t ws i (No NoRoom) (TooFull t len) (λ y f h. shut (ltb i (t .limits .p)) y (sym (call-gate (g .agree) (g .long) i) ∙ f) h)
-      (λ h. let z : _≡_ {A = ℕ} 0 1 = cc in clash z)
-      (λ h. let z : _≡_ {A = ℕ} 0 1 = cc in clash z) (New r len m) e (λ f. new-shows) (λ f. off-on (sym f ∙ on))
-    where
-      shut : (b : Bool) (y : Refusal) → pick b Open (Shut (refusal 2)) ≡ Shut y → No y ≡ No NoRoom → TooFull t len
-      shut true y f h = let z : _≡_ {A = ℕ} 0 1 = cc in clash z
-      shut false y f h = let z : _≡_ {A = ℕ} 0 1 = cc in clash z

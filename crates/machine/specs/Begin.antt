@@ -13,7 +13,6 @@ use Rattle.table.specs.declared.Storing.the-variants.{Slot}
 use Rattle.table.specs.declared.Then.the-variants.{ToWrite}
 use Rattle.table.specs.declared.Place.{Place}
 use Rattle.table.specs.declared.Place.the-variants.{New, FillWrite, StoreWrite, Looking}
-use Rattle.table.specs.declared.Task.{Task}
 use Rattle.table.specs.declared.Table.{Table}
 use Rattle.table.specs.declared.Object.{Object}
 use Rattle.table.specs.declared.Object.the-variants.{Whole, Torn}

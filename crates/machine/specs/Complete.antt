@@ -1,11 +1,10 @@
 -- The instructions that complete in the call: Move, Clear, to and from a shared root, Same, Load.
 use Prim.Native.Nat.{ℕ, _+_}
 use mathlib.Core.List.{List}
-use mathlib.Core.Bool.{Bool, not}
-use lib.ListN.{length, getD}
+use mathlib.Core.Bool.{Bool}
+use lib.ListN.{getD}
 use lib.Dec.{ltb, leb, eqb}
 use Rattle.table.specs.declared.Primary.{Primary}
-use Rattle.table.specs.declared.Task.{Task}
 use Rattle.table.specs.declared.Table.{Table}
 use Rattle.table.specs.declared.Object.{Object}
 use Rattle.table.specs.declared.Object.the-variants.{Whole, Torn}

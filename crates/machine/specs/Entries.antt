@@ -1,7 +1,7 @@
 -- Tables and task entries with some of their parts changed, and how a call ends.
 use Prim.Native.Nat.{ℕ}
 use mathlib.Core.List.{List, []}
-use mathlib.Core.Bool.{Bool, true, false}
+use mathlib.Core.Bool.{Bool, true}
 use lib.ListN.{getD, set}
 use lib.Dec.{ltb}
 use Rattle.table.specs.declared.Primary.{Primary}
@@ -10,12 +10,12 @@ use Rattle.table.specs.declared.Marks.{Marks}
 use Rattle.table.specs.declared.Pending.{Pending}
 use Rattle.table.specs.declared.Pending.the-variants.{Nothing, Making}
 use Rattle.table.specs.declared.Storing.{Storing}
-use Rattle.table.specs.declared.Storing.the-variants.{Nowhere, Slot}
+use Rattle.table.specs.declared.Storing.the-variants.{Nowhere}
 use Rattle.table.specs.declared.Place.{Place}
 use Rattle.table.specs.declared.Place.the-variants.{Idle}
 use Rattle.table.specs.declared.Task.{Task}
 use Rattle.table.specs.declared.Life.{Life}
-use Rattle.table.specs.declared.Life.the-variants.{Living, Spent, Broken}
+use Rattle.table.specs.declared.Life.the-variants.{Spent, Broken}
 use Rattle.table.specs.declared.Table.{Table}
 use Rattle.table.specs.declared.Refusal.{Refusal}
 use Rattle.table.specs.declared.Refusal.the-variants.{WrongLimit, NoTask, NoRegister, NilObject, NoSlot, OutOfTurn, Held, SlotInStore, NoRoom, Exhausted, Damaged}

@@ -1,7 +1,7 @@
 -- The flip, one step: the pending objects, then the roots, then the registers task by task.
 use Prim.Native.Nat.{ℕ}
 use mathlib.Core.List.{List, [], _∷_}
-use mathlib.Core.Bool.{Bool, true, false, not}
+use mathlib.Core.Bool.{Bool, true, not}
 use lib.ListN.{take}
 use lib.Dec.{ltb, eqb}
 use Rattle.table.specs.declared.Primary.{Primary}

@@ -1,7 +1,7 @@
 -- What every call tests first: limits and buffer (1), the dead number, the table's numbers (11), the task (2).
 use Prim.Native.Nat.{ℕ, _+_, _-_, _*_}
 use mathlib.Core.List.{List}
-use mathlib.Core.Bool.{Bool, true, false, not}
+use mathlib.Core.Bool.{Bool, true, false}
 use lib.ListN.{length}
 use lib.Dec.{ltb, eqb}
 use Rattle.table.specs.declared.Limits.{Limits}

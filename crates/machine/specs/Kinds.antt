@@ -1,5 +1,4 @@
 -- Which kind of action a call made, by its answer and its task's place before and after it.
-use Prim.Native.Nat.{ℕ}
 use mathlib.Core.List.{List, [], _∷_}
 use mathlib.Core.Bool.{Bool, true, false}
 use Rattle.table.specs.declared.Place.{Place}

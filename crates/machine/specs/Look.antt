@@ -1,7 +1,7 @@
 -- Look and place, each once, with what follows as data.
 use Prim.Native.Nat.{ℕ, _+_, _-_}
 use mathlib.Core.List.{List}
-use mathlib.Core.Bool.{Bool, true, false}
+use mathlib.Core.Bool.{true}
 use lib.ListN.{getD, set}
 use lib.Dec.{eqb}
 use Rattle.table.specs.declared.Primary.{Primary}

@@ -1,7 +1,6 @@
 -- Pay, per copy: take, read, look, put, release. (The take that finds the stack empty is in Step.)
 use Prim.Native.Nat.{ℕ, _+_, _-_}
 use mathlib.Core.List.{List}
-use mathlib.Core.Bool.{Bool}
 use lib.ListN.{getD, set}
 use lib.Dec.{ltb, leb, eqb}
 use Rattle.table.specs.declared.Primary.{Primary}
@@ -10,7 +9,6 @@ use Rattle.table.specs.declared.Marks.{Marks}
 use Rattle.table.specs.declared.Copied.{Copied}
 use Rattle.table.specs.declared.Operand.the-variants.{Plain, Pointer}
 use Rattle.table.specs.declared.Then.the-variants.{ToPut}
-use Rattle.table.specs.declared.Place.{Place}
 use Rattle.table.specs.declared.Place.the-variants.{Take, Read, Put, Release}
 use Rattle.table.specs.declared.Object.{Object}
 use Rattle.table.specs.declared.Object.the-variants.{Whole, Torn}

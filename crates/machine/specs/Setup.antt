@@ -1,9 +1,8 @@
 -- Set-up and report.
 use Prim.Native.Nat.{ℕ, _+_, _-_}
 use mathlib.Core.List.{List}
-use mathlib.Core.Bool.{Bool, true, false}
+use mathlib.Core.Bool.{false}
 use lib.ListN.{length, replicate}
-use Rattle.table.specs.declared.Primary.{Primary}
 use Rattle.table.specs.declared.Limits.{Limits}
 use Rattle.table.specs.declared.Pending.the-variants.{Nothing}
 use Rattle.table.specs.declared.Storing.the-variants.{Nowhere}

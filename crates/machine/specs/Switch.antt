@@ -1,7 +1,7 @@
 -- The end of an instruction, and the switch-over.
 use Prim.Native.Nat.{ℕ}
 use mathlib.Core.List.{List}
-use mathlib.Core.Bool.{Bool, true, false, not}
+use mathlib.Core.Bool.{Bool, true, false}
 use lib.ListN.{set, take}
 use lib.Dec.{eqb}
 use Rattle.table.specs.declared.Primary.{Primary}

@@ -3,10 +3,9 @@ use Prim.Native.Nat.{ℕ, zero, suc, _+_, _-_, _≤_, _<_}
 use mathlib.Core.Path.{_≡_}
 use mathlib.Core.Logic.{_≢_, _⊎_}
 use mathlib.Core.List.{List, [], map}
-use mathlib.Core.Bool.{Bool, true, false}
+use mathlib.Core.Bool.{Bool, true}
 use lib.ListN.{length, getD}
 use Rattle.table.specs.declared.Table.{Table}
-use Rattle.table.specs.declared.Task.{Task}
 use Rattle.table.specs.declared.Life.the-variants.{Living}
 use Rattle.machine.specs.Words.{descriptor, bottomOf, endOf}
 use Rattle.machine.specs.Entries.{taskAt}

@@ -1,7 +1,5 @@
 -- What stands in table and words for an object's number: pa gives the address of its primary, ra of its replica.
-use Prim.Native.Nat.{ℕ, zero, suc, _+_, _-_}
-use mathlib.Core.List.{List}
-use mathlib.Core.Bool.{Bool}
+use Prim.Native.Nat.{ℕ, _+_}
 use mathlib.Core.List.{map}
 use lib.Dec.{ltb}
 use Rattle.table.specs.declared.Primary.{Primary}

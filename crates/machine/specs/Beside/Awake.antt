@@ -1,11 +1,10 @@
 -- The switch-over is not due while something is grey or a task is busy: what registers and begins make of that.
-use Prim.Native.Nat.{ℕ, zero, suc, _+_, _≤_, _<_}
+use Prim.Native.Nat.{ℕ, zero, suc}
 use mathlib.Core.Path.{_≡_, refl, ap, sym, _∙_}
-use mathlib.Core.Logic.{_≢_}
 use mathlib.Core.List.{List, [], _∷_}
-use mathlib.Core.Bool.{Bool, true, false, not}
+use mathlib.Core.Bool.{Bool, true, false}
 use native.Mathlib.Omega.{arith}
-use lib.ListN.{length, getD, set, take}
+use lib.ListN.{getD, set, take}
 use lib.Dec.{ltb}
 use borrow.Author.Tests.{le-ltb, ltb-false}
 use Rattle.table.specs.declared.Sought.{Sought}
@@ -13,16 +12,14 @@ use Rattle.table.specs.declared.Sought.the-variants.{Claiming, Busy}
 use Rattle.table.specs.declared.Found.{Found}
 use Rattle.table.specs.declared.Found.the-variants.{At, Nobody}
 use Rattle.table.specs.declared.Marks.{Marks}
-use Rattle.table.specs.declared.Limits.{Limits}
 use Rattle.table.specs.declared.Primary.{Primary}
 use Rattle.table.specs.declared.Place.{Place}
 use Rattle.table.specs.declared.Task.{Task}
 use Rattle.table.specs.declared.Table.{Table}
 use Rattle.machine.specs.Basics.{pick}
-use Rattle.machine.specs.Words.{endOf}
 use Rattle.machine.specs.Entries.{table, noTask, taskAt}
 use Rattle.machine.specs.Begin.{heldAt}
-use Rattle.machine.specs.Tasks.{holdingOf, claimsOf, soughtOf, soughtTask, lowestOf, seekOf, isFound, some, greyOf, allIdle, closingOf, heldOf}
+use Rattle.machine.specs.Tasks.{holdingOf, claimsOf, soughtOf, soughtTask, lowestOf, seekOf, isFound, some, greyOf, closingOf, heldOf}
 use Rattle.machine.specs.Switch.{switchDue}
 use Rattle.machine.specs.Objects.Base.{off-on}
 use Rattle.table.specs.declared.Holding.{Holding}
@@ -30,7 +27,6 @@ use Rattle.table.specs.declared.Holding.the-variants.{Rests, Asks, Free, Job, C
 use Rattle.machine.specs.Objects.State.{State, ClaimIn, HasClaim}
 use Rattle.machine.specs.Agree.Holdings.{atHolding, holding-at}
 use Rattle.machine.specs.Agree.Search.{found-is}
-use Rattle.machine.specs.Objects.Inv.{Inv}
 use Rattle.machine.specs.Agree.Agree.{Agree, end}
 use Rattle.machine.specs.Agree.Read.{stack-empty}
 use Rattle.machine.specs.Agree.Enter.{entered}

@@ -1,11 +1,8 @@
 -- A collection goes on: a step's counts, and what lived at the flip as before.
-use Prim.Native.Nat.{ℕ, suc, _+_, _≤_, _<_}
-use mathlib.Core.Path.{_≡_, refl, ap, sym, _∙_}
+use Prim.Native.Nat.{ℕ}
+use mathlib.Core.Path.{_≡_, refl}
 use mathlib.Core.Logic.{_≢_}
-use mathlib.Core.List.{List, [], _∷_, map}
 use mathlib.Core.Bool.{Bool, true, false}
-use Rattle.table.specs.declared.Limits.{Limits}
-use Rattle.table.specs.declared.Marks.{Marks}
 use Rattle.table.specs.declared.Operand.{Operand}
 use Rattle.table.specs.declared.Operand.the-variants.{Plain, Pointer}
 use Rattle.table.specs.declared.Copied.{Copied}
@@ -19,13 +16,12 @@ use Rattle.machine.specs.Basics.{pick}
 use Rattle.machine.specs.Words.{replica}
 use Rattle.machine.specs.Look.{goOn, lookAhead}
 use Rattle.machine.specs.Tasks.{holdingOf}
-use Rattle.machine.specs.History.{Copy, History, withCopies}
-use Rattle.machine.specs.Objects.Base.{clash}
+use Rattle.machine.specs.History.{History, withCopies}
 use Rattle.machine.specs.Objects.State.{State, ClaimIn}
 use Rattle.machine.specs.Objects.Counts.{Counts, thenLeft, leftToPay}
 use Rattle.machine.specs.Agree.Agree.{bottom}
 use Rattle.machine.specs.Beside.Stands.{Stands}
-use Rattle.machine.specs.Beside.Collecting.{copyAt, Collecting}
+use Rattle.machine.specs.Beside.Collecting.{Collecting}
 use Rattle.machine.specs.Beside.Lives.{lived-same}
 use lib.Dec.{eqb}
 

@@ -1,7 +1,7 @@
 -- The calls that complete at once: what is tested first, in the machine and in the store alike.
-use Prim.Native.Nat.{ℕ, _≤_, _<_}
-use mathlib.Core.Path.{_≡_, refl, ap, sym, _∙_}
-use mathlib.Core.List.{List, []}
+use Prim.Native.Nat.{ℕ, _<_}
+use mathlib.Core.Path.{_≡_, refl, ap, sym}
+use mathlib.Core.List.{List}
 use mathlib.Core.Bool.{Bool, true, false}
 use lib.Dec.{ltb}
 use native.Mathlib.Omega.{arith}
@@ -9,22 +9,20 @@ use borrow.Author.Tests.{ltb-true, ltb-false}
 use Rattle.table.specs.declared.Limits.{Limits}
 use Rattle.table.specs.declared.Place.{Place}
 use Rattle.table.specs.declared.Place.the-variants.{Idle, New, Asked, FillWrite, FillCopy, StoreWrite, Meet, StoreCopy, Take, Read, Put, Release, Looking, Placing}
-use Rattle.table.specs.declared.Then.{Then}
 use Rattle.table.specs.declared.Then.the-variants.{ToWrite, ToStoreCopy, ToFillCopy, ToPut}
 use Rattle.table.specs.declared.Task.{Task}
 use Rattle.table.specs.declared.Table.{Table}
 use Rattle.table.specs.declared.Answer.{Answer}
-use Rattle.table.specs.declared.Answer.the-variants.{Accepted, Done, Value, Moved, Wait, Report, No}
+use Rattle.table.specs.declared.Answer.the-variants.{No}
 use Rattle.table.specs.declared.Outcome.{Outcome}
 use Rattle.machine.specs.History.{History}
 use Rattle.machine.specs.Basics.{pick}
 use Rattle.machine.specs.Numbers.{refusal}
 use Rattle.machine.specs.Entries.{no}
 use Rattle.machine.specs.Tasks.{holdingOf, idleOf}
-use Rattle.machine.specs.StillStore.{Store, Doing, resting, ownerAt, isResting, ready, refuses}
+use Rattle.machine.specs.StillStore.{Store, Doing, ownerAt, isResting, ready, refuses}
 use Rattle.machine.specs.Agree.Complete.{ifTwo, isIdle, task-in}
-use Rattle.machine.specs.Beside.Still.{DoingAt, Still}
-use Rattle.machine.specs.Beside.Stands.{Stands}
+use Rattle.machine.specs.Beside.Still.{DoingAt}
 use Rattle.machine.specs.Beside.Doing.{busy}
 use Rattle.machine.specs.Beside.Good.{Good, Undamaged}
 

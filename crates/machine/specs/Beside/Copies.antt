@@ -1,58 +1,50 @@
 -- The steps of a copy in hand: read, put, release.
-use Prim.Native.Nat.{ℕ, zero, suc, _+_, _-_, _≤_, _<_}
-use mathlib.Core.Path.{_≡_, refl, ap, sym, _∙_}
-use mathlib.Core.Logic.{_≢_, _⊎_, inl, inr}
-use mathlib.Core.List.{List, [], _∷_}
+use Prim.Native.Nat.{ℕ, _+_, _<_}
+use mathlib.Core.Path.{_≡_, refl, ap}
+use mathlib.Core.List.{List}
 use mathlib.Core.Bool.{Bool, true, false}
 use native.Mathlib.Omega.{arith}
-use lib.ListN.{getD, set}
-use lib.Dec.{ltb, leb, eqb}
-use borrow.Author.Tests.{eqb-true, eqb-false, ne-eqb, lt-leb, ltb-true}
+use lib.Dec.{ltb, eqb}
+use borrow.Author.Tests.{lt-leb, ltb-true}
 use Rattle.table.specs.declared.Limits.{Limits}
 use Rattle.table.specs.declared.Primary.{Primary}
 use Rattle.table.specs.declared.Operand.{Operand}
 use Rattle.table.specs.declared.Operand.the-variants.{Plain, Pointer}
 use Rattle.table.specs.declared.Copied.{Copied}
-use Rattle.table.specs.declared.Copied.the-variants.{Same, Renamed}
+use Rattle.table.specs.declared.Copied.the-variants.{Renamed}
 use Rattle.table.specs.declared.Then.the-variants.{ToPut}
-use Rattle.table.specs.declared.Place.{Place}
-use Rattle.table.specs.declared.Place.the-variants.{Take, Read, Put, Release, Looking}
+use Rattle.table.specs.declared.Place.the-variants.{Read, Put, Release, Looking}
 use Rattle.table.specs.declared.Deed.the-variants.{Goes}
-use Rattle.table.specs.declared.Answer.the-variants.{Done, Moved}
+use Rattle.table.specs.declared.Answer.the-variants.{Moved}
 use Rattle.table.specs.declared.Task.{Task}
 use Rattle.table.specs.declared.Table.{Table}
 use Rattle.machine.specs.History.{History}
 use Rattle.machine.specs.Basics.{pick}
 use Rattle.machine.specs.Words.{primary, replica, copiedWord}
-use Rattle.machine.specs.Entries.{taskAt, movedTable, marksAt, out, ends}
+use Rattle.machine.specs.Entries.{taskAt, movedTable, out, ends}
 use Rattle.machine.specs.Deeds.{acted}
 use Rattle.machine.specs.Look.{lookAhead}
-use Rattle.machine.specs.Switch.{finishOf}
-use Rattle.machine.specs.Pay.{takeOf, readOf, putOf, paid, releaseOf}
-use Rattle.machine.specs.Step.{waitOf, settle, settleOf, emptyTakeOf, takeStepOf}
-use Rattle.machine.specs.Tasks.{holdingOf, greyOf}
+use Rattle.machine.specs.Pay.{readOf, putOf}
+use Rattle.machine.specs.Step.{settle, settleOf}
+use Rattle.machine.specs.Tasks.{holdingOf}
 use Rattle.machine.specs.StillStore.{Store, Doing, ownerAt, happenAll, isResting}
-use Rattle.machine.specs.Objects.State.{Hd, white, claimed, count, locked, State, IsPlaced, isRenamed, jobsIn, Late}
-use Rattle.machine.specs.Objects.Inv.{Inv, Sound, Colours, Mode, SoundOperand, SoundCopied}
-use Rattle.machine.specs.Objects.Ops.{goes, moves, heads, copies, push}
+use Rattle.machine.specs.Objects.State.{locked, IsPlaced, jobsIn, Late}
+use Rattle.machine.specs.Objects.Inv.{Inv, Colours, SoundOperand}
+use Rattle.machine.specs.Objects.Ops.{goes, moves, copies}
 use Rattle.machine.specs.Objects.MoveLaws.{at-place}
-use Rattle.machine.specs.Objects.PaySteps.{takes, reads, puts, releases}
-use Rattle.machine.specs.Objects.Ends.{take-ends, release-ends}
-use Rattle.machine.specs.Agree.Encode.{atPrimary, atOperand, atCopied, atPlace, atTask}
-use Rattle.machine.specs.Agree.Agree.{Agree, Held, end}
-use Rattle.machine.specs.Agree.Read.{object-of, copyingIs, copying-of, slot-of, stack-of, stack-room, stack-empty}
-use Rattle.machine.specs.Agree.Enter.{moves-agree, job-counted}
-use Rattle.machine.specs.Agree.Heads.{take-agree, release-agree}
+use Rattle.machine.specs.Objects.PaySteps.{reads, puts}
+use Rattle.machine.specs.Agree.Encode.{atPrimary, atOperand, atCopied, atPlace}
+use Rattle.machine.specs.Agree.Agree.{Held}
+use Rattle.machine.specs.Agree.Read.{object-of, slot-of}
+use Rattle.machine.specs.Agree.Enter.{moves-agree}
 use Rattle.machine.specs.Agree.Slots.{copies-agree}
-use Rattle.machine.specs.Agree.Search.{worker-found}
-use Rattle.machine.specs.Beside.Still.{DoingAt, Still}
+use Rattle.machine.specs.Beside.Still.{DoingAt}
 use Rattle.machine.specs.Beside.Doing.{still-goes}
 use Rattle.machine.specs.Beside.Stands.{stands-ahead}
 use Rattle.machine.specs.Objects.CountLaws.{counts-goes}
 use Rattle.machine.specs.Beside.Collects.{collects, not-idle, ahead-left, ahead-free}
-use Rattle.machine.specs.Beside.Good.{Good, Comes, comes-moved, comes-wait}
+use Rattle.machine.specs.Beside.Good.{Good, Comes, comes-moved}
 use Rattle.machine.specs.Beside.Glue.{copied-word, at-ahead, look-placed, below, moved-goes, busy-at}
-use Rattle.machine.specs.Beside.Ending.{ends-comes}
 
 -- the job in hand stays, and the store knows no more than that the task is busy
 ahead-jobs : (v : Operand) (n : ℕ) (x : Primary) (k : ℕ) → 1 ≡ jobsIn (holdingOf (lookAhead v (ToPut n x k) (Put n x k)))

@@ -1,25 +1,24 @@
 -- Demand 2, from the runs in which table and store stand side by side.
 use Prim.Native.Nat.{ℕ}
-use mathlib.Core.Path.{_≡_, refl, ap, sym, _∙_}
-use mathlib.Core.Logic.{_≢_, _⊎_, inl, inr}
-use mathlib.Core.List.{List, [], _∷_}
-use mathlib.Core.Bool.{Bool, true, false}
+use mathlib.Core.Path.{_≡_, sym, _∙_}
+use mathlib.Core.Logic.{_≢_, inl, inr}
+use mathlib.Core.List.{List}
+use mathlib.Core.Bool.{true}
 use native.Mathlib.Omega.{arith}
-use lib.ListN.{length, replicate}
+use lib.ListN.{length}
 use Rattle.table.specs.declared.Limits.{Limits}
 use Rattle.table.specs.declared.Table.{Table}
 use Rattle.table.specs.declared.Refusal.the-variants.{Exhausted, Damaged}
 use Rattle.table.specs.declared.Answer.{Answer}
 use Rattle.table.specs.declared.Answer.the-variants.{No}
-use Rattle.machine.specs.Entries.{Ends}
 use Rattle.machine.specs.Gate.{sizesOk}
 use Rattle.machine.specs.Setup.{setupOf}
 use Rattle.machine.specs.Call.{Call}
 use Rattle.machine.specs.Calls.{then, run}
 use Rattle.machine.specs.StillStore.{Store, emptyStore, loadAnswer, sameAnswer}
-use Rattle.machine.specs.Kinds.{follows, beside}
+use Rattle.machine.specs.Kinds.{beside}
 use Rattle.machine.specs.History.{noHistory, historyOf}
-use Rattle.machine.specs.Beside.Good.{Good, Undamaged}
+use Rattle.machine.specs.Beside.Good.{Good}
 use Rattle.machine.specs.Beside.Start.{fresh-good}
 use Rattle.machine.specs.Beside.Calls.{load-answers, same-answers}
 use Rattle.machine.specs.Beside.Run.{Living, Spends, Well, Proceeds, proceeds, good-run}

@@ -1,7 +1,7 @@
 -- Demand 3, from the runs in which table, store and history stand side by side.
-use Prim.Native.Nat.{ℕ, _+_, _*_, _/_, _≤_, _<_}
+use Prim.Native.Nat.{ℕ, _≤_, _<_}
 use mathlib.Core.Path.{_≡_, refl, ap, sym, _∙_}
-use mathlib.Core.Logic.{_≢_, _⊎_, inl, inr}
+use mathlib.Core.Logic.{_≢_, inl, inr}
 use mathlib.Core.List.{List, [], _∷_}
 use mathlib.Core.Bool.{Bool, true, false}
 use native.Mathlib.Omega.{arith}
@@ -19,15 +19,15 @@ use Rattle.machine.specs.Call.{Call}
 use Rattle.machine.specs.Calls.{then, run}
 use Rattle.machine.specs.StillStore.{Store, emptyStore}
 use Rattle.machine.specs.Kinds.{follows, beside}
-use Rattle.machine.specs.History.{Copy, InCopies, NoCopyTwice, History, noHistory, withCopies, isFlip, flipHistory, stepHistory, historyAfter, historyOf, copied, copiesOf, NoFlip}
+use Rattle.machine.specs.History.{InCopies, NoCopyTwice, History, noHistory, withCopies, isFlip, flipHistory, historyAfter, historyOf, copied, copiesOf, NoFlip}
 use Rattle.machine.specs.Live.Live.{liveOf, sizeOf, filledAt}
-use Rattle.machine.specs.Objects.Base.{In, off-on}
+use Rattle.machine.specs.Objects.Base.{In}
 use Rattle.machine.specs.Beside.Collecting.{Exact}
 use Rattle.machine.specs.Beside.Exactly.{counted}
 use Rattle.machine.specs.Beside.Histories.{flip-history}
 use Rattle.machine.specs.Beside.Finish.{known-of}
 use Rattle.machine.specs.Beside.Good.{Good}
-use Rattle.machine.specs.Beside.Run.{Living, Well, Proceeds, proceeds, good-run}
+use Rattle.machine.specs.Beside.Run.{Living, Proceeds, proceeds, good-run}
 use Rattle.machine.specs.Beside.Rooms.{Suits, suits-on, suits-off}
 use Rattle.machine.specs.Beside.Demand2.{good-after}
 

@@ -1,11 +1,9 @@
 -- What the store knows of an instruction, from place to place.
 use Prim.Native.Nat.{ℕ, _<_}
-use mathlib.Core.Path.{_≡_, refl, ap}
+use mathlib.Core.Path.{_≡_, ap}
 use mathlib.Core.List.{List}
-use mathlib.Core.Bool.{Bool, true, false}
+use mathlib.Core.Bool.{false}
 use Rattle.table.specs.declared.Primary.{Primary}
-use Rattle.table.specs.declared.Pending.{Pending}
-use Rattle.table.specs.declared.Pending.the-variants.{Nothing, Making}
 use Rattle.table.specs.declared.Storing.{Storing}
 use Rattle.table.specs.declared.Storing.the-variants.{Nowhere, Slot}
 use Rattle.table.specs.declared.Then.{Then}
@@ -15,11 +13,11 @@ use Rattle.table.specs.declared.Place.the-variants.{Idle, New, Asked, FillWrite
 use Rattle.table.specs.declared.Task.{Task}
 use Rattle.machine.specs.Words.{replica}
 use Rattle.machine.specs.Look.{goOn}
-use Rattle.machine.specs.StillStore.{Store, Doing, resting, making, filling, storing, ownerAt, isResting}
+use Rattle.machine.specs.StillStore.{Store, Doing, storing, ownerAt, isResting}
 use Rattle.machine.specs.Objects.Base.{upd}
-use Rattle.machine.specs.Objects.State.{Shape, OfStore, pendingIs}
-use Rattle.machine.specs.Objects.Ops.{goes, goesWith}
-use Rattle.machine.specs.Beside.Still.{DoingThen, DoingAt, GoesTo, StillTask, Still}
+use Rattle.machine.specs.Objects.State.{Shape, OfStore}
+use Rattle.machine.specs.Objects.Ops.{goes}
+use Rattle.machine.specs.Beside.Still.{DoingThen, DoingAt, Still}
 use Rattle.machine.specs.Beside.Stands.{Stands}
 use Rattle.machine.specs.Beside.StillLaws.{still-entry}
 

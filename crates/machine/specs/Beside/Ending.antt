@@ -1,5 +1,5 @@
 -- An instruction that ends with no change but its end: a payment that finds nothing grey, a New refused for want of room.
-use Prim.Native.Nat.{ℕ, _+_, _≤_, _<_}
+use Prim.Native.Nat.{ℕ, _<_}
 use mathlib.Core.Path.{_≡_, refl, ap, sym, _∙_}
 use mathlib.Core.List.{List, [], _∷_}
 use mathlib.Core.Bool.{Bool, true, false}
@@ -26,7 +26,7 @@ use Rattle.machine.specs.Kinds.{stepKinds}
 use Rattle.machine.specs.Objects.State.{Hd, Shape, jobsIn}
 use Rattle.machine.specs.Objects.Inv.{Inv, PendingOk}
 use Rattle.machine.specs.Objects.Ops.{moves}
-use Rattle.machine.specs.Agree.Encode.{atPending, atTask}
+use Rattle.machine.specs.Agree.Encode.{atTask}
 use Rattle.machine.specs.Agree.Enter.{entered, entered-ended, moves-agree}
 use Rattle.machine.specs.Beside.Still.{Still}
 use Rattle.machine.specs.Beside.StillSteps.{Filling, still-ended}

@@ -1,20 +1,19 @@
 -- A collection that ends has copied each slot filled at its flip of each object then live, once, and nothing else.
-use Prim.Native.Nat.{ℕ, zero, suc, _≤_, _<_}
+use Prim.Native.Nat.{ℕ, _≤_, _<_}
 use mathlib.Core.Path.{_≡_, refl, ap, sym, _∙_}
-use mathlib.Core.Logic.{_⊎_, inl, inr}
+use mathlib.Core.Logic.{inl, inr}
 use mathlib.Core.List.{List, [], _∷_, map}
-use mathlib.Core.Bool.{Bool, true, false}
 use native.Mathlib.Omega.{arith}
 use lib.ListN.{length, length-map}
 use Rattle.table.specs.declared.Table.{Table}
-use Rattle.machine.specs.History.{Copy, copy, InCopies, NoCopyTwice, History}
+use Rattle.machine.specs.History.{Copy, InCopies, NoCopyTwice, History}
 use Rattle.machine.specs.Objects.Base.{In}
-use Rattle.machine.specs.Objects.State.{State, Shape, Snapshot, count, IsSeen, IsPlaced}
+use Rattle.machine.specs.Objects.State.{State, count}
 use Rattle.machine.specs.Objects.Inv.{Reach}
 use Rattle.machine.specs.Objects.HeadLaws.{placed-seen}
 use Rattle.machine.specs.Agree.Agree.{Agree}
 use Rattle.machine.specs.Agree.Names.{pa-inj}
-use Rattle.machine.specs.Beside.Collecting.{copyAt, Lived, Collecting, Exact}
+use Rattle.machine.specs.Beside.Collecting.{copyAt, Collecting, Exact}
 
 -- a copy among those at the addresses is one of an object
 pub copy-back : (pa : ℕ → ℕ) (cs : List Copy) (p i : ℕ) → InCopies p i (map (copyAt pa) cs) → (x : ℕ) × (pa x ≡ p) × InCopies x i cs

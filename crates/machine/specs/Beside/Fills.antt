@@ -1,20 +1,19 @@
 -- The steps of a Fill, collecting and off.
-use Prim.Native.Nat.{ℕ, zero, suc, _+_, _-_, _≤_, _<_}
+use Prim.Native.Nat.{ℕ, suc, _+_, _<_}
 use mathlib.Core.Path.{_≡_, refl, ap, sym, _∙_}
-use mathlib.Core.Logic.{_≢_}
-use mathlib.Core.List.{List, [], _∷_}
+use mathlib.Core.List.{List}
 use mathlib.Core.Bool.{Bool, true, false}
 use native.Mathlib.Omega.{arith}
-use lib.Dec.{ltb, leb, eqb}
-use borrow.Author.Tests.{eqb-true, eqb-false, lt-leb}
+use lib.Dec.{ltb, eqb}
+use borrow.Author.Tests.{eqb-true, lt-leb}
 use Rattle.table.specs.declared.Limits.{Limits}
 use Rattle.table.specs.declared.Primary.{Primary}
 use Rattle.table.specs.declared.Operand.{Operand}
 use Rattle.table.specs.declared.Operand.the-variants.{Plain, Pointer}
 use Rattle.table.specs.declared.Copied.{Copied}
-use Rattle.table.specs.declared.Copied.the-variants.{Same, Renamed}
+use Rattle.table.specs.declared.Copied.the-variants.{Renamed}
 use Rattle.table.specs.declared.Pending.{Pending}
-use Rattle.table.specs.declared.Pending.the-variants.{Nothing, Making}
+use Rattle.table.specs.declared.Pending.the-variants.{Making}
 use Rattle.table.specs.declared.Then.the-variants.{ToFillCopy}
 use Rattle.table.specs.declared.Place.{Place}
 use Rattle.table.specs.declared.Place.the-variants.{FillWrite, FillCopy, Take, Looking}
@@ -23,23 +22,22 @@ use Rattle.table.specs.declared.Task.{Task}
 use Rattle.table.specs.declared.Table.{Table}
 use Rattle.machine.specs.History.{History}
 use Rattle.machine.specs.Basics.{pick}
-use Rattle.machine.specs.Words.{primary, replica, operandWord, copiedWord}
-use Rattle.machine.specs.Entries.{taskAt}
+use Rattle.machine.specs.Words.{replica, operandWord, copiedWord}
 use Rattle.machine.specs.Begin.{isPointer}
 use Rattle.machine.specs.Look.{lookAhead}
 use Rattle.machine.specs.Fill.{fillWriteOf, fillCopyOf}
 use Rattle.machine.specs.Switch.{endedEntry}
 use Rattle.machine.specs.Step.{settle, settleOf}
 use Rattle.machine.specs.Tasks.{holdingOf}
-use Rattle.machine.specs.StillStore.{Store, Doing, filling, ownerAt, thingAt, withThing, fillsThing, withOwner, endsOwner, happenAll, isResting}
+use Rattle.machine.specs.StillStore.{Store, Doing, filling, ownerAt, thingAt, withThing, fillsThing, withOwner, endsOwner, happenAll}
 use Rattle.machine.specs.Objects.Base.{off-on, upd, upd-same, slot, slot-same, slot-other}
-use Rattle.machine.specs.Objects.State.{Hd, Shape, State, isRenamed, IsPlaced, pendingIs, OfPending, jobsIn}
-use Rattle.machine.specs.Objects.Inv.{Inv, Sound, PendingOk, SoundOperand, SoundCopied, HalfFilled}
+use Rattle.machine.specs.Objects.State.{isRenamed, pendingIs, OfPending, jobsIn}
+use Rattle.machine.specs.Objects.Inv.{PendingOk, SoundOperand}
 use Rattle.machine.specs.Objects.Ops.{goes, goesWith, halfFills, fillsCopy, fillsOff, filledOne, wroteOne}
 use Rattle.machine.specs.Objects.MoveLaws.{at-place}
 use Rattle.machine.specs.Objects.FillSteps.{fill-writes, fill-copies, fill-off}
-use Rattle.machine.specs.Agree.Encode.{atPrimary, atOperand, atCopied, atPending, atPlace, atTask}
-use Rattle.machine.specs.Agree.Agree.{Agree, Held}
+use Rattle.machine.specs.Agree.Encode.{atPrimary, atOperand, atCopied, atPlace}
+use Rattle.machine.specs.Agree.Agree.{Held}
 use Rattle.machine.specs.Agree.Read.{object-of}
 use Rattle.machine.specs.Agree.Enter.{entered-moved, entered-ended}
 use Rattle.machine.specs.Agree.Slots.{half-agree, fills-agree, fills-off-agree}

@@ -1,27 +1,25 @@
 -- The end of an instruction, with the switch-over where it is due.
-use Prim.Native.Nat.{ℕ, _≤_, _<_}
-use mathlib.Core.Path.{_≡_, refl, ap, sym, _∙_}
-use mathlib.Core.Logic.{_⊎_, inl, inr}
-use mathlib.Core.List.{List, [], _∷_}
-use mathlib.Core.Bool.{Bool, true, false, not}
-use native.Mathlib.Omega.{arith}
+use Prim.Native.Nat.{ℕ, _≤_}
+use mathlib.Core.Path.{_≡_, refl, sym, _∙_}
+use mathlib.Core.Logic.{inr}
+use mathlib.Core.List.{List}
+use mathlib.Core.Bool.{Bool, true, false}
 use lib.ListN.{length}
 use Rattle.table.specs.declared.Limits.{Limits}
 use Rattle.table.specs.declared.Marks.{Marks}
 use Rattle.table.specs.declared.Pending.{Pending}
 use Rattle.table.specs.declared.Place.{Place}
-use Rattle.table.specs.declared.Place.the-variants.{Idle}
 use Rattle.table.specs.declared.Table.{Table}
 use Rattle.table.specs.declared.Answer.{Answer}
 use Rattle.machine.specs.Basics.{pick}
 use Rattle.machine.specs.Words.{endOf}
-use Rattle.machine.specs.Entries.{taskAt, out, Ends, ends}
+use Rattle.machine.specs.Entries.{taskAt, out, ends}
 use Rattle.machine.specs.Tasks.{greyOf, allIdle}
 use Rattle.machine.specs.Switch.{switched, switchOf, switchDue, endedTable, finishOf}
 use Rattle.machine.specs.StillStore.{Store, happenAll}
 use Rattle.machine.specs.Kinds.{stepKinds}
 use Rattle.machine.specs.Objects.Base.{off-on}
-use Rattle.machine.specs.Objects.State.{State, count}
+use Rattle.machine.specs.Objects.State.{State}
 use Rattle.machine.specs.Objects.Inv.{Inv}
 use Rattle.machine.specs.Objects.Ops.{switches}
 use Rattle.machine.specs.Objects.Final.{final}

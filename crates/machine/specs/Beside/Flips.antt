@@ -1,15 +1,14 @@
 -- A New that finds no room while off: it asks for a flip, or makes it.
-use Prim.Native.Nat.{ℕ, zero, suc, _+_, _-_, _≤_, _<_}
+use Prim.Native.Nat.{ℕ, _+_, _-_, _<_}
 use mathlib.Core.Path.{_≡_, refl, ap, sym, _∙_}
-use mathlib.Core.Logic.{_≢_, _⊎_, inl, inr}
+use mathlib.Core.Logic.{_⊎_, inl, inr}
 use mathlib.Core.List.{List, [], _∷_}
 use mathlib.Core.Bool.{Bool, true, false}
 use native.Mathlib.Decide.{ℕ-discrete}
 use native.Mathlib.Omega.{arith}
-use lib.Dec.{ltb, leb}
+use lib.Dec.{leb}
 use borrow.Author.Tests.{leb-true}
 use Rattle.table.specs.declared.Limits.{Limits}
-use Rattle.table.specs.declared.Operand.{Operand}
 use Rattle.table.specs.declared.Place.{Place}
 use Rattle.table.specs.declared.Place.the-variants.{Idle, New, Asked, FillWrite, FillCopy, StoreWrite, Meet, StoreCopy, Take, Read, Put, Release, Looking, Placing}
 use Rattle.table.specs.declared.Pass.{Pass}
@@ -26,28 +25,26 @@ use Rattle.machine.specs.Basics.{pick}
 use Rattle.machine.specs.Numbers.{refusal}
 use Rattle.machine.specs.Words.{descriptor, roomFor, laid}
 use Rattle.machine.specs.Entries.{taskAt, withPlace, out, Ends, ends, refused}
-use Rattle.machine.specs.Begin.{newOk}
 use Rattle.machine.specs.Switch.{finishOf}
 use Rattle.machine.specs.Flip.{passesOf, unasked, unaskedEntry, flipped, flipEnd, flipOf}
 use Rattle.machine.specs.New.{claimed, made, askOr, newOffOf}
 use Rattle.machine.specs.Tasks.{holdingOf, idleOf, seekOf}
-use Rattle.machine.specs.StillStore.{Store, Kind, Made, Ended, Doing, making, ownerAt, happenAll}
-use Rattle.machine.specs.Kinds.{doneKinds, movedKinds, stepKinds}
-use Rattle.machine.specs.Objects.Base.{off-on, upd}
-use Rattle.machine.specs.Objects.State.{State, jobsIn}
-use Rattle.machine.specs.Objects.Inv.{Inv, NewOk}
+use Rattle.machine.specs.StillStore.{Store, Made, Ended, Doing, making, ownerAt, happenAll}
+use Rattle.machine.specs.Kinds.{doneKinds, movedKinds}
+use Rattle.machine.specs.Objects.Base.{off-on}
+use Rattle.machine.specs.Objects.Inv.{NewOk}
 use Rattle.machine.specs.Objects.Ops.{goes, moves, flips}
 use Rattle.machine.specs.Objects.MoveLaws.{at-place}
 use Rattle.machine.specs.Objects.Ends.{asks}
 use Rattle.machine.specs.Objects.Flipped.{Restful, Left}
 use Rattle.machine.specs.Objects.FlipInv.{flip-inv, readied}
-use Rattle.machine.specs.Agree.Encode.{atPlace, atTask}
-use Rattle.machine.specs.Agree.Agree.{Agree, bottom, end}
+use Rattle.machine.specs.Agree.Encode.{atPlace}
+use Rattle.machine.specs.Agree.Agree.{end}
 use Rattle.machine.specs.Agree.Enter.{entered-place, moves-agree}
 use Rattle.machine.specs.Agree.Search.{no-blocker}
 use Rattle.machine.specs.Agree.FlipWords.{FlipMade, flip-words, flip-agree, made-counts}
 use Rattle.machine.specs.Beside.LivedAt.{flip-made-lived}
-use Rattle.machine.specs.Beside.Still.{DoingThen, DoingAt, StillTask, Still}
+use Rattle.machine.specs.Beside.Still.{DoingAt, Still}
 use Rattle.machine.specs.Beside.Doing.{still-goes}
 use Rattle.machine.specs.Beside.Histories.{off-stays, no-copy, history-is, flip-history, busy-awake}
 use Rattle.machine.specs.Beside.Good.{Good, Comes}

@@ -1,12 +1,9 @@
 -- The machine's entries, values and places, in terms of those of the objects.
-use Prim.Native.Nat.{ℕ, _+_, _≤_, _<_}
+use Prim.Native.Nat.{ℕ, _<_}
 use mathlib.Core.Path.{_≡_, refl, ap, sym, _∙_}
-use mathlib.Core.Logic.{_≢_}
 use mathlib.Core.List.{List}
 use mathlib.Core.Bool.{Bool, true, false}
-use native.Mathlib.Omega.{arith}
 use lib.Dec.{ltb, eqb}
-use borrow.Author.Tests.{eqb-true, eqb-false}
 use Rattle.table.specs.declared.Limits.{Limits}
 use Rattle.table.specs.declared.Marks.{Marks}
 use Rattle.table.specs.declared.Operand.{Operand}
@@ -17,7 +14,6 @@ use Rattle.table.specs.declared.Then.{Then}
 use Rattle.table.specs.declared.Then.the-variants.{ToWrite, ToStoreCopy, ToFillCopy, ToPut}
 use Rattle.table.specs.declared.Place.{Place}
 use Rattle.table.specs.declared.Place.the-variants.{Looking}
-use Rattle.table.specs.declared.Task.{Task}
 use Rattle.table.specs.declared.Table.{Table}
 use Rattle.machine.specs.History.{History}
 use Rattle.machine.specs.Basics.{pick}

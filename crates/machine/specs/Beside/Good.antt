@@ -1,11 +1,11 @@
 -- A table and its words that stand for objects, and the store beside them; and what a step must make of them.
 use Prim.Native.Nat.{ℕ, _+_, _*_, _≤_, _<_}
-use mathlib.Core.Path.{_≡_, refl, ap, sym, _∙_}
-use mathlib.Core.Logic.{_≢_, _⊎_, inl, inr}
-use mathlib.Core.List.{List, [], _∷_}
-use mathlib.Core.Bool.{Bool, true, false, not}
+use mathlib.Core.Path.{_≡_, refl, sym, _∙_}
+use mathlib.Core.Logic.{_⊎_, inr}
+use mathlib.Core.List.{List}
+use mathlib.Core.Bool.{true, false}
 use native.Mathlib.Omega.{arith}
-use lib.ListN.{length, getD, set}
+use lib.ListN.{length}
 use lib.Seq.{getD-set-same}
 use Rattle.table.specs.declared.Limits.{Limits}
 use Rattle.table.specs.declared.Marks.{Marks}
@@ -14,12 +14,11 @@ use Rattle.table.specs.declared.Place.{Place}
 use Rattle.table.specs.declared.Place.the-variants.{Idle, New, Asked, FillWrite, FillCopy, StoreWrite, Meet, StoreCopy, Take, Read, Put, Release, Looking, Placing}
 use Rattle.table.specs.declared.Task.{Task}
 use Rattle.table.specs.declared.Table.{Table}
-use Rattle.table.specs.declared.Refusal.{Refusal}
 use Rattle.table.specs.declared.Refusal.the-variants.{WrongLimit, NoTask, NoRegister, NilObject, NoSlot, OutOfTurn, Held, SlotInStore, NoRoom, Exhausted, Damaged}
 use Rattle.table.specs.declared.Answer.{Answer}
 use Rattle.table.specs.declared.Answer.the-variants.{Accepted, Done, Value, Moved, Wait, Report, No}
 use Rattle.machine.specs.Entries.{noTask, taskAt, movedTable, out, Ends, ends}
-use Rattle.machine.specs.StillStore.{Store, Kind, happenAll}
+use Rattle.machine.specs.StillStore.{Store, happenAll}
 use Rattle.machine.specs.Kinds.{movedKinds, stepKinds}
 use Rattle.machine.specs.Objects.Base.{off-on}
 use Rattle.machine.specs.Objects.State.{State}

@@ -1,20 +1,18 @@
 -- The history behind a step that is no flip.
 use Prim.Native.Nat.{ℕ, _<_, _≤_}
-use mathlib.Core.Path.{_≡_, refl, ap, sym, _∙_}
+use mathlib.Core.Path.{_≡_, refl, ap, _∙_}
 use mathlib.Core.List.{List}
-use mathlib.Core.Bool.{Bool, true, false, not}
+use mathlib.Core.Bool.{Bool, true, false}
 use lib.ListN.{length}
 use Rattle.table.specs.declared.Place.{Place}
 use Rattle.table.specs.declared.Place.the-variants.{Idle, New, Asked, FillWrite, FillCopy, StoreWrite, Meet, StoreCopy, Take, Read, Put, Release, Looking, Placing}
 use Rattle.table.specs.declared.Sought.the-variants.{Busy}
-use Rattle.table.specs.declared.Found.{Found}
-use Rattle.table.specs.declared.Found.the-variants.{At, Nobody}
 use Rattle.table.specs.declared.Answer.{Answer}
 use Rattle.table.specs.declared.Table.{Table}
 use Rattle.machine.specs.Basics.{pick}
 use Rattle.machine.specs.Words.{endOf}
-use Rattle.machine.specs.Entries.{noTask, taskAt, Ends}
-use Rattle.machine.specs.Tasks.{holdingOf, idleOf, soughtOf, soughtTask, isFound, seekOf, greyOf}
+use Rattle.machine.specs.Entries.{taskAt, Ends}
+use Rattle.machine.specs.Tasks.{holdingOf, idleOf, soughtOf, greyOf}
 use Rattle.machine.specs.Switch.{switchDue}
 use Rattle.machine.specs.History.{Copy, History, went, withCopy, withCopies, isFlip, flipHistory, stepHistory}
 use Rattle.machine.specs.Objects.Base.{off-on}

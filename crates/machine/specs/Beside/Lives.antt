@@ -1,16 +1,14 @@
 -- What lived at the flip does not change during the collection.
-use Prim.Native.Nat.{ℕ, zero, suc, _+_, _≤_, _<_}
+use Prim.Native.Nat.{ℕ, suc, _≤_, _<_}
 use mathlib.Core.Path.{_≡_, refl, ap, sym, _∙_}
-use mathlib.Core.Logic.{_≢_, _⊎_, inl, inr}
+use mathlib.Core.Logic.{_≢_, inl, inr}
 use mathlib.Core.List.{List, [], _∷_, map}
-use mathlib.Core.Bool.{Bool, true, false}
 use native.Mathlib.Omega.{arith}
-use lib.ListN.{length}
 use Rattle.machine.specs.History.{Copy, copy, InCopies, History, withCopies}
-use Rattle.machine.specs.Objects.Base.{In, sumTo, upd, upd-other}
+use Rattle.machine.specs.Objects.Base.{upd, upd-other}
 use Rattle.machine.specs.Objects.State.{Shape, Snapshot}
 use Rattle.machine.specs.Objects.Inv.{Reach}
-use Rattle.machine.specs.Objects.Ops.{oneMore, filledOne, wroteOne}
+use Rattle.machine.specs.Objects.Ops.{oneMore}
 use Rattle.machine.specs.Objects.FillLaws.{reach-keep}
 use Rattle.machine.specs.Beside.Collecting.{copyAt, Lived}
 

@@ -1,9 +1,9 @@
 -- Look and place, while collecting.
-use Prim.Native.Nat.{ℕ, suc, _+_, _-_, _≤_, _<_}
-use mathlib.Core.Path.{_≡_, refl, ap, sym, _∙_}
-use mathlib.Core.Logic.{_≢_, _⊎_, inl, inr}
-use mathlib.Core.List.{List, [], _∷_}
-use mathlib.Core.Bool.{Bool, true, false}
+use Prim.Native.Nat.{ℕ, _+_, _-_, _<_}
+use mathlib.Core.Path.{_≡_, refl}
+use mathlib.Core.Logic.{_⊎_, inl, inr}
+use mathlib.Core.List.{List}
+use mathlib.Core.Bool.{true}
 use native.Mathlib.Omega.{arith}
 use lib.ListN.{set}
 use Rattle.table.specs.declared.Limits.{Limits}
@@ -18,7 +18,6 @@ use Rattle.table.specs.declared.Sought.the-variants.{Claimer}
 use Rattle.table.specs.declared.Deed.the-variants.{Goes, Fails}
 use Rattle.table.specs.declared.Answer.the-variants.{Moved}
 use Rattle.machine.specs.History.{History}
-use Rattle.machine.specs.Basics.{pick}
 use Rattle.machine.specs.Numbers.{refusal}
 use Rattle.machine.specs.Words.{primary, replica, roomOf, ifForwarded}
 use Rattle.machine.specs.Entries.{taskAt, movedTable, out, ends}
@@ -28,8 +27,8 @@ use Rattle.machine.specs.Step.{waitOf, settle, settleOf}
 use Rattle.machine.specs.Tasks.{holdingOf}
 use Rattle.machine.specs.StillStore.{Store, Doing, ownerAt, happenAll}
 use Rattle.machine.specs.Objects.Base.{upd}
-use Rattle.machine.specs.Objects.State.{Hd, white, claimed, count, locked, State, IsPlaced, jobsIn}
-use Rattle.machine.specs.Objects.Inv.{Inv, Sound, ThenOk}
+use Rattle.machine.specs.Objects.State.{Hd, white, claimed, count, locked, IsPlaced, jobsIn}
+use Rattle.machine.specs.Objects.Inv.{Sound}
 use Rattle.machine.specs.Objects.Ops.{goes, moves, heads, twins}
 use Rattle.machine.specs.Objects.MoveLaws.{at-place}
 use Rattle.machine.specs.Objects.HeadSteps.{look-claims, look-goes, places}
@@ -42,14 +41,14 @@ use Rattle.machine.specs.Agree.PlaceStep.{place-step, placed-moved}
 use Rattle.machine.specs.Agree.Midway.{twinNeed, twinMarks, twinWords}
 use Rattle.machine.specs.Agree.Heads.{claim-agree}
 use Rattle.machine.specs.Agree.Search.{claimer-found}
-use Rattle.machine.specs.Beside.Still.{DoingThen, DoingAt, Still}
+use Rattle.machine.specs.Beside.Still.{DoingThen, DoingAt}
 use Rattle.machine.specs.Beside.Doing.{doing-on, doing-claims, still-goes}
 use Rattle.machine.specs.Beside.Stands.{stands-on}
 use Rattle.machine.specs.Objects.CountLaws.{counts-goes}
 use Rattle.machine.specs.Objects.CountHeads.{counts-claims, counts-places}
 use Rattle.machine.specs.Beside.Collects.{collects, not-idle, on-left, on-free}
 use Rattle.machine.specs.Beside.Good.{Good, Comes, comes-moved, comes-wait}
-use Rattle.machine.specs.Beside.Glue.{at-on, look-placed, below, moved-goes}
+use Rattle.machine.specs.Beside.Glue.{at-on, below, moved-goes}
 
 doing-look : (e : Task) (d : Doing) (q : Primary) (th : Then) (pl : Place) → pl ≡ Looking q th → DoingAt e d pl → DoingThen e d (q .0) th
 doing-look e d q th pl pe h = rw pe at h

@@ -1,12 +1,10 @@
 -- The meet of a Store with the copier.
-use Prim.Native.Nat.{ℕ, suc, _+_, _-_, _≤_, _<_}
-use mathlib.Core.Path.{_≡_, refl, ap, sym, _∙_}
-use mathlib.Core.Logic.{_≢_, _⊎_, inl, inr}
-use mathlib.Core.List.{List, [], _∷_}
+use Prim.Native.Nat.{ℕ, _+_, _<_}
+use mathlib.Core.Path.{_≡_, refl, ap, _∙_}
+use mathlib.Core.List.{List}
 use mathlib.Core.Bool.{Bool, true, false}
 use native.Mathlib.Omega.{arith}
-use lib.ListN.{getD}
-use lib.Dec.{ltb, leb, eqb}
+use lib.Dec.{eqb}
 use borrow.Author.Tests.{eqb-true, eqb-false}
 use Rattle.table.specs.declared.Limits.{Limits}
 use Rattle.table.specs.declared.Primary.{Primary}
@@ -14,39 +12,34 @@ use Rattle.table.specs.declared.Operand.{Operand}
 use Rattle.table.specs.declared.Operand.the-variants.{Plain, Pointer}
 use Rattle.table.specs.declared.Copied.the-variants.{Renamed}
 use Rattle.table.specs.declared.Deed.the-variants.{Goes, Waits}
-use Rattle.table.specs.declared.Storing.the-variants.{Nowhere, Slot}
+use Rattle.table.specs.declared.Storing.the-variants.{Slot}
 use Rattle.table.specs.declared.Then.the-variants.{ToStoreCopy}
-use Rattle.table.specs.declared.Place.{Place}
 use Rattle.table.specs.declared.Place.the-variants.{Meet, StoreCopy, Take, Looking}
-use Rattle.table.specs.declared.Look.{Look}
-use Rattle.table.specs.declared.Copying.{Copying}
-use Rattle.table.specs.declared.Copying.the-variants.{Count, Locked, Neither}
 use Rattle.table.specs.declared.Sought.the-variants.{Claimer, Holder}
 use Rattle.table.specs.declared.Answer.the-variants.{Moved}
 use Rattle.table.specs.declared.Task.{Task}
 use Rattle.table.specs.declared.Table.{Table}
 use Rattle.machine.specs.History.{History}
 use Rattle.machine.specs.Basics.{pick}
-use Rattle.machine.specs.Words.{primary, replica, operandWord, ifForwarded, lookOf, copyingOf}
+use Rattle.machine.specs.Words.{replica, ifForwarded}
 use Rattle.machine.specs.Entries.{taskAt, movedTable, out, ends}
-use Rattle.machine.specs.Begin.{isPointer}
 use Rattle.machine.specs.Deeds.{acted}
 use Rattle.machine.specs.Look.{lookAhead}
-use Rattle.machine.specs.Store.{meetCopying, unmetCase, meetIn, meetOf}
+use Rattle.machine.specs.Store.{unmetCase, meetIn, meetOf}
 use Rattle.machine.specs.Step.{waitOf, settle, settleOf}
 use Rattle.machine.specs.Tasks.{holdingOf}
 use Rattle.machine.specs.StillStore.{Store, Doing, ownerAt, happenAll, isResting}
-use Rattle.machine.specs.Objects.State.{Hd, white, claimed, count, locked, State, OfStore, IsPlaced, jobsIn}
-use Rattle.machine.specs.Objects.Inv.{Inv, Sound, StoringOk, SoundOperand}
+use Rattle.machine.specs.Objects.State.{Hd, white, claimed, count, locked, IsPlaced, jobsIn}
+use Rattle.machine.specs.Objects.Inv.{StoringOk, SoundOperand}
 use Rattle.machine.specs.Objects.Ops.{goes, moves}
 use Rattle.machine.specs.Objects.StoreSteps.{meets-white, meets-goes}
-use Rattle.machine.specs.Agree.Encode.{atPrimary, atOperand, atPlace, atTask}
-use Rattle.machine.specs.Agree.Agree.{Agree, Held}
+use Rattle.machine.specs.Agree.Encode.{atPrimary, atOperand, atPlace}
+use Rattle.machine.specs.Agree.Agree.{Held}
 use Rattle.machine.specs.Agree.Names.{sound-held}
-use Rattle.machine.specs.Agree.Read.{lookIs, look-of, copyingIs, copying-of}
+use Rattle.machine.specs.Agree.Read.{lookIs, look-of, copying-of}
 use Rattle.machine.specs.Agree.Enter.{moves-agree}
 use Rattle.machine.specs.Agree.Search.{claimer-found, holder-found}
-use Rattle.machine.specs.Beside.Still.{DoingAt, Still}
+use Rattle.machine.specs.Beside.Still.{DoingAt}
 use Rattle.machine.specs.Beside.Doing.{still-goes}
 use Rattle.machine.specs.Beside.Stands.{stands-ahead}
 use Rattle.machine.specs.Objects.CountLaws.{counts-goes, counts-pays}

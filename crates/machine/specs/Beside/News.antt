@@ -1,16 +1,15 @@
 -- The step of a New that claims, collecting and off.
-use Prim.Native.Nat.{ℕ, zero, suc, _+_, _-_, _*_, _≤_, _<_}
+use Prim.Native.Nat.{ℕ, suc, _+_, _-_, _*_, _≤_, _<_}
 use mathlib.Core.Path.{_≡_, refl, ap, sym, _∙_}
 use mathlib.Core.Logic.{_⊎_, inl, inr}
 use mathlib.Core.List.{List, [], _∷_}
 use mathlib.Core.Bool.{Bool, true, false}
 use native.Mathlib.Omega.{arith}
-use lib.Dec.{ltb, leb}
+use lib.Dec.{leb}
 use borrow.Author.Tests.{le-ltb, leb-true, leb-false}
 use Rattle.table.specs.declared.Limits.{Limits}
 use Rattle.table.specs.declared.Pending.{Pending}
-use Rattle.table.specs.declared.Pending.the-variants.{Nothing, Making}
-use Rattle.table.specs.declared.Storing.the-variants.{Nowhere}
+use Rattle.table.specs.declared.Pending.the-variants.{Making}
 use Rattle.table.specs.declared.Place.{Place}
 use Rattle.table.specs.declared.Place.the-variants.{New, Asked, Take}
 use Rattle.table.specs.declared.Answer.the-variants.{Done, Moved, No}
@@ -20,23 +19,23 @@ use Rattle.machine.specs.History.{History, withCopy}
 use Rattle.machine.specs.Basics.{pick}
 use Rattle.machine.specs.Numbers.{refusal}
 use Rattle.machine.specs.Words.{primary, descriptor, roomFor, laid}
-use Rattle.machine.specs.Entries.{taskAt, marksAt, movedTable, out, ends}
+use Rattle.machine.specs.Entries.{taskAt, movedTable, out, ends}
 use Rattle.machine.specs.Begin.{newOk}
 use Rattle.machine.specs.Switch.{endedEntry, endedTable, finishOf}
 use Rattle.machine.specs.New.{claimed, made, claimedTwice, newOnOf}
 use Rattle.machine.specs.Tasks.{holdingOf}
-use Rattle.machine.specs.StillStore.{Store, Kind, Made, Ended, Doing, happens, making, ownerAt, thingAt, withOwner, endsOwner, happenAll}
+use Rattle.machine.specs.StillStore.{Store, Kind, Made, Ended, Doing, happens, making, ownerAt, happenAll}
 use Rattle.machine.specs.Kinds.{doneKinds}
 use Rattle.machine.specs.StillStore.{makes as makesThing}
 use Rattle.machine.specs.Objects.Base.{off-on, upd, upd-same, upd-other}
 use Rattle.machine.specs.Objects.State.{State, jobsIn}
-use Rattle.machine.specs.Objects.Inv.{Inv, NewOk}
+use Rattle.machine.specs.Objects.Inv.{Inv}
 use Rattle.machine.specs.Objects.Ops.{goesWith, makes, oneMore}
 use Rattle.machine.specs.Objects.MoveLaws.{at-place, upd-twice}
 use Rattle.machine.specs.Objects.NewSteps.{new-on, new-off}
 use Rattle.machine.specs.Objects.Ends.{new-ends}
-use Rattle.machine.specs.Agree.Encode.{atPending, atPlace, atTask}
-use Rattle.machine.specs.Agree.Agree.{Agree, bottom, end}
+use Rattle.machine.specs.Agree.Encode.{atPlace, atTask}
+use Rattle.machine.specs.Agree.Agree.{bottom, end}
 use Rattle.machine.specs.Agree.Enter.{entered, entered-moved, entered-ended}
 use Rattle.machine.specs.Agree.Block.{make-on-tasks, make-off-tasks}
 use Rattle.machine.specs.Agree.Make.{made-at, make-on-agree, make-off-agree}

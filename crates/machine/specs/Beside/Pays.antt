@@ -1,61 +1,48 @@
 -- The steps of a payment: take, read, put, release.
-use Prim.Native.Nat.{ℕ, zero, suc, _+_, _-_, _≤_, _<_}
-use mathlib.Core.Path.{_≡_, refl, ap, sym, _∙_}
-use mathlib.Core.Logic.{_≢_, _⊎_, inl, inr}
+use Prim.Native.Nat.{ℕ, suc, _+_, _-_, _<_}
+use mathlib.Core.Path.{_≡_, refl}
+use mathlib.Core.Logic.{inl}
 use mathlib.Core.List.{List, [], _∷_}
 use mathlib.Core.Bool.{Bool, true, false}
 use native.Mathlib.Omega.{arith}
-use lib.ListN.{getD, set}
-use lib.Dec.{ltb, leb, eqb}
-use borrow.Author.Tests.{eqb-true, eqb-false, ne-eqb, lt-leb, lt-ltb, le-ltb, ltb-true, ltb-false}
+use lib.Dec.{ltb}
+use borrow.Author.Tests.{ne-eqb, lt-ltb, le-ltb}
 use Rattle.table.specs.declared.Limits.{Limits}
-use Rattle.table.specs.declared.Primary.{Primary}
-use Rattle.table.specs.declared.Operand.{Operand}
-use Rattle.table.specs.declared.Operand.the-variants.{Plain, Pointer}
-use Rattle.table.specs.declared.Copied.{Copied}
-use Rattle.table.specs.declared.Copied.the-variants.{Same, Renamed}
-use Rattle.table.specs.declared.Then.the-variants.{ToPut}
 use Rattle.table.specs.declared.Place.{Place}
-use Rattle.table.specs.declared.Place.the-variants.{Take, Read, Put, Release, Looking}
+use Rattle.table.specs.declared.Place.the-variants.{Take, Read}
 use Rattle.table.specs.declared.Sought.the-variants.{Worker}
-use Rattle.table.specs.declared.Answer.the-variants.{Done, Moved}
-use Rattle.table.specs.declared.Task.{Task}
+use Rattle.table.specs.declared.Answer.the-variants.{Done}
 use Rattle.table.specs.declared.Table.{Table}
 use Rattle.machine.specs.History.{History, withCopies}
 use Rattle.machine.specs.Basics.{pick}
-use Rattle.machine.specs.Words.{primary, replica, copiedWord}
-use Rattle.machine.specs.Entries.{taskAt, movedTable, marksAt, out, ends}
-use Rattle.machine.specs.Look.{lookAhead}
+use Rattle.machine.specs.Words.{primary}
+use Rattle.machine.specs.Entries.{taskAt, marksAt, ends}
 use Rattle.machine.specs.Switch.{endedEntry, endedTable, finishOf}
-use Rattle.machine.specs.Pay.{takeOf, readOf, putOf, paid, releaseOf}
+use Rattle.machine.specs.Pay.{takeOf}
 use Rattle.machine.specs.Step.{waitOf, settle, settleOf, emptyTakeOf, takeStepOf}
 use Rattle.machine.specs.Tasks.{holdingOf, greyOf}
-use Rattle.machine.specs.StillStore.{Store, Doing, ownerAt, happenAll, isResting}
+use Rattle.machine.specs.StillStore.{Store, happenAll}
 use Rattle.machine.specs.Objects.Base.{upd}
-use Rattle.machine.specs.Objects.State.{Hd, white, claimed, count, locked, State, IsPlaced, isRenamed, jobsIn, Late, HasClaim}
-use Rattle.machine.specs.Objects.Inv.{Inv, Sound, Colours, Mode, SoundOperand, SoundCopied}
-use Rattle.machine.specs.Objects.Ops.{goes, moves, heads, copies, push}
+use Rattle.machine.specs.Objects.State.{count, locked, jobsIn, Late}
+use Rattle.machine.specs.Objects.Inv.{Colours}
+use Rattle.machine.specs.Objects.Ops.{goes, moves, heads, copies}
 use Rattle.machine.specs.Objects.MoveLaws.{at-place}
-use Rattle.machine.specs.Objects.PaySteps.{takes, reads, puts, releases}
-use Rattle.machine.specs.Objects.Ends.{take-ends, release-ends}
-use Rattle.machine.specs.Agree.Encode.{atPrimary, atCopied, atPlace, atTask}
-use Rattle.machine.specs.Agree.Agree.{Agree, Held, end}
-use Rattle.machine.specs.Agree.Read.{object-of, copyingIs, copying-of, slot-of, stack-of, stack-room, stack-empty}
-use Rattle.machine.specs.Agree.Enter.{moves-agree, job-counted}
-use Rattle.machine.specs.Agree.Heads.{take-agree, release-agree}
-use Rattle.machine.specs.Agree.Slots.{copies-agree}
+use Rattle.machine.specs.Objects.PaySteps.{takes}
+use Rattle.machine.specs.Objects.Ends.{take-ends}
+use Rattle.machine.specs.Agree.Encode.{atPlace}
+use Rattle.machine.specs.Agree.Agree.{Held, end}
+use Rattle.machine.specs.Agree.Read.{copying-of, stack-of, stack-room, stack-empty}
+use Rattle.machine.specs.Agree.Heads.{take-agree}
 use Rattle.machine.specs.Agree.Search.{worker-found, not-grey}
-use Rattle.machine.specs.Beside.Still.{DoingAt, Still}
 use Rattle.machine.specs.Beside.Doing.{still-goes}
 use Rattle.machine.specs.Objects.CountLaws.{counts-ends-empty}
 use Rattle.machine.specs.Objects.CountHeads.{counts-takes}
 use Rattle.machine.specs.Beside.Collects.{collects}
 use Rattle.machine.specs.Beside.Collecting.{Collecting}
 use Rattle.machine.specs.Beside.Lives.{lived-same}
-use Rattle.machine.specs.Setup.{freshTask}
 use Rattle.machine.specs.Beside.Awake.{grey-jobs}
 use Rattle.machine.specs.Beside.Good.{Good, Comes, comes-moved, comes-wait}
-use Rattle.machine.specs.Beside.Glue.{copied-word, at-ahead, look-placed, below, moved-goes, busy-at}
+use Rattle.machine.specs.Beside.Glue.{look-placed, below, moved-goes, busy-at}
 use Rattle.machine.specs.Beside.Ending.{ends-comes}
 
 no-job : (pl : Place) (n : ℕ) → pl ≡ Take n → jobsIn (holdingOf pl) ≡ 0

@@ -1,12 +1,12 @@
 -- The release of a copied slot: the payment goes on, or the instruction ends.
-use Prim.Native.Nat.{ℕ, zero, suc, _+_, _-_, _≤_, _<_}
+use Prim.Native.Nat.{ℕ, _+_, _-_, _≤_, _<_}
 use mathlib.Core.Path.{_≡_, refl, ap, sym, _∙_}
 use mathlib.Core.Logic.{_≢_}
-use mathlib.Core.List.{List, [], _∷_}
+use mathlib.Core.List.{List, _∷_}
 use mathlib.Core.Bool.{Bool, true, false}
 use native.Mathlib.Omega.{arith}
-use lib.ListN.{getD, set}
-use lib.Dec.{leb, eqb}
+use lib.ListN.{set}
+use lib.Dec.{eqb}
 use borrow.Author.Tests.{eqb-true, eqb-false, ne-eqb, lt-leb}
 use Rattle.table.specs.declared.Limits.{Limits}
 use Rattle.table.specs.declared.Primary.{Primary}
@@ -18,23 +18,21 @@ use Rattle.table.specs.declared.Answer.the-variants.{Done}
 use Rattle.table.specs.declared.Table.{Table}
 use Rattle.machine.specs.History.{Copy, History, copy}
 use Rattle.machine.specs.Basics.{pick}
-use Rattle.machine.specs.Words.{primary, replica}
+use Rattle.machine.specs.Words.{replica}
 use Rattle.machine.specs.Entries.{taskAt, marksAt}
-use Rattle.machine.specs.Deeds.{Acted, acted}
+use Rattle.machine.specs.Deeds.{acted}
 use Rattle.machine.specs.Switch.{endedEntry}
 use Rattle.machine.specs.Pay.{paid, releaseIn, releaseOf}
 use Rattle.machine.specs.Step.{settle, settleOf}
 use Rattle.machine.specs.Tasks.{holdingOf}
 use Rattle.machine.specs.StillStore.{Store, ownerAt, thingAt, withOwner, endsOwner, happenAll}
 use Rattle.machine.specs.Objects.Base.{off-on}
-use Rattle.machine.specs.Objects.State.{Hd, count, locked, jobsIn}
-use Rattle.machine.specs.Objects.Inv.{Inv}
+use Rattle.machine.specs.Objects.State.{count, locked, jobsIn}
 use Rattle.machine.specs.Objects.Ops.{goes, heads, push}
 use Rattle.machine.specs.Objects.MoveLaws.{at-place}
 use Rattle.machine.specs.Objects.PaySteps.{releases}
 use Rattle.machine.specs.Objects.Ends.{release-ends}
-use Rattle.machine.specs.Agree.Encode.{atPrimary, atPlace, atTask}
-use Rattle.machine.specs.Agree.Agree.{Agree, Held}
+use Rattle.machine.specs.Agree.Encode.{atPrimary, atPlace}
 use Rattle.machine.specs.Agree.Enter.{job-counted}
 use Rattle.machine.specs.Agree.Heads.{release-agree}
 use Rattle.machine.specs.Beside.Doing.{still-goes}

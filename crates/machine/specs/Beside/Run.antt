@@ -1,17 +1,15 @@
 -- Calls in a row: as long as the heap is not exhausted, table and store stand side by side.
 use Prim.Native.Nat.{ℕ, _<_}
-use mathlib.Core.Path.{_≡_, refl, ap, sym, _∙_}
+use mathlib.Core.Path.{_≡_, refl, ap}
 use mathlib.Core.Logic.{_≢_, _⊎_, inl, inr}
 use mathlib.Core.List.{List, [], _∷_}
 use mathlib.Core.Bool.{Bool, true, false}
 use lib.Dec.{ltb}
 use borrow.Author.Tests.{ltb-true}
 use Rattle.table.specs.declared.Limits.{Limits}
-use Rattle.table.specs.declared.Place.{Place}
 use Rattle.table.specs.declared.Task.{Task}
 use Rattle.table.specs.declared.Table.{Table}
 use Rattle.table.specs.declared.Refusal.the-variants.{Exhausted}
-use Rattle.table.specs.declared.Gate.{Gate}
 use Rattle.table.specs.declared.Gate.the-variants.{Open, Shut}
 use Rattle.table.specs.declared.Answer.{Answer}
 use Rattle.table.specs.declared.Answer.the-variants.{Accepted, Done, Value, Moved, Wait, Report, No}
@@ -21,17 +19,16 @@ use Rattle.machine.specs.Numbers.{refusal}
 use Rattle.machine.specs.Entries.{taskAt, no, Ends, ends}
 use Rattle.machine.specs.Step.{stepThrough, taskStepOf, stepOf}
 use Rattle.machine.specs.Call.{Call}
-use Rattle.machine.specs.Calls.{call, then, run}
+use Rattle.machine.specs.Calls.{then, run}
 use Rattle.machine.specs.StillStore.{Store, Kind, told, happenAll}
-use Rattle.machine.specs.Kinds.{made, follows, beside, stepKinds}
-use Rattle.machine.specs.Agree.Encode.{atPlace}
+use Rattle.machine.specs.Kinds.{follows, beside, stepKinds}
 use Rattle.machine.specs.Agree.Gates.{call-gate}
 use Rattle.machine.specs.Beside.Room.{WantsRoom}
 use Rattle.machine.specs.Beside.Histories.{as-it-was, no-copy, history-is}
 use Rattle.machine.specs.Beside.Good.{Good, Undamaged, Fine, Comes}
 use Rattle.machine.specs.Beside.Glue.{entry-of}
 use Rattle.machine.specs.Beside.Steps.{step-at}
-use Rattle.machine.specs.Beside.Calls.{NotStep, call-keeps, made-none}
+use Rattle.machine.specs.Beside.Calls.{call-keeps}
 
 -- why a call may answer 10: a step of a task whose place wants more room than there is
 abbrev pub Spends : Call → Table → List ℕ → Type 0

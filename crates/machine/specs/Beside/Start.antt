@@ -1,15 +1,13 @@
 -- An accepted set-up: table and words stand for no object, and so does the empty store.
-use Prim.Native.Nat.{ℕ, zero, suc, _+_, _*_, _-_, _≤_, _<_}
-use mathlib.Core.Path.{_≡_, refl, ap, sym, _∙_}
-use mathlib.Core.Logic.{_≢_}
-use mathlib.Core.List.{List, [], _∷_}
+use Prim.Native.Nat.{ℕ, zero, suc, _+_, _*_, _≤_}
+use mathlib.Core.Path.{_≡_, refl}
+use mathlib.Core.List.{List, []}
 use mathlib.Core.Bool.{Bool, true, false}
 use native.Mathlib.Omega.{arith}
-use lib.ListN.{length, getD, replicate, length-replicate, getD-replicate}
+use lib.ListN.{replicate, length-replicate, getD-replicate}
 use lib.Dec.{ltb, eqb}
 use borrow.Author.Tests.{ltb-false, eqb-true}
 use Rattle.table.specs.declared.Limits.{Limits}
-use Rattle.table.specs.declared.Table.{Table}
 use Rattle.machine.specs.Basics.{pick}
 use Rattle.machine.specs.Words.{bottomOf, endOf}
 use Rattle.machine.specs.Entries.{noTask}
@@ -17,13 +15,12 @@ use Rattle.machine.specs.Gate.{limitsOk, sizesOk}
 use Rattle.machine.specs.Bounds.{Limited, Sized}
 use Rattle.machine.specs.Setup.{freshTask, freshTable}
 use Rattle.machine.specs.Tasks.{holdingOf}
-use Rattle.machine.specs.StillStore.{Store, emptyStore, owner, resting}
+use Rattle.machine.specs.StillStore.{emptyStore, owner, resting}
 use Rattle.machine.specs.Objects.Base.{off-on, sumTo}
-use Rattle.machine.specs.Objects.State.{State, Snapshot}
+use Rattle.machine.specs.Objects.State.{Snapshot}
 use Rattle.machine.specs.Objects.Start.{start, start-inv}
-use Rattle.machine.specs.Agree.Encode.{atTask}
-use Rattle.machine.specs.Agree.Mem.{Loc, P, R, S, Holds}
-use Rattle.machine.specs.Agree.Agree.{Agree, addr, Ok, content}
+use Rattle.machine.specs.Agree.Mem.{P, R, S, Holds}
+use Rattle.machine.specs.Agree.Agree.{addr, Ok, content}
 use Rattle.machine.specs.Agree.Home.{home-none}
 use Rattle.machine.specs.History.{noHistory}
 use Rattle.machine.specs.Beside.Good.{Good}

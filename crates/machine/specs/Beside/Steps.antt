@@ -1,12 +1,10 @@
 -- Every step of a task: the heap is exhausted for want of room, or table and store stand side by side again.
-use Prim.Native.Nat.{ℕ, zero, suc, _+_, _-_, _≤_, _<_}
+use Prim.Native.Nat.{ℕ, _<_}
 use mathlib.Core.Path.{_≡_, refl, ap, sym, _∙_}
-use mathlib.Core.Logic.{_≢_, _⊎_, inl, inr}
-use mathlib.Core.List.{List, [], _∷_}
+use mathlib.Core.Logic.{inl, inr}
+use mathlib.Core.List.{List}
 use mathlib.Core.Bool.{Bool, true, false}
-use native.Mathlib.Omega.{arith}
-use lib.Dec.{ltb}
-use borrow.Author.Tests.{lt-ltb, ltb-true}
+use borrow.Author.Tests.{lt-ltb}
 use Rattle.table.specs.declared.Limits.{Limits}
 use Rattle.table.specs.declared.Primary.{Primary}
 use Rattle.table.specs.declared.Operand.{Operand}
@@ -16,7 +14,6 @@ use Rattle.table.specs.declared.Pending.the-variants.{Nothing, Making}
 use Rattle.table.specs.declared.Storing.{Storing}
 use Rattle.table.specs.declared.Storing.the-variants.{Nowhere, Slot}
 use Rattle.table.specs.declared.Then.{Then}
-use Rattle.table.specs.declared.Then.the-variants.{ToWrite, ToStoreCopy, ToFillCopy, ToPut}
 use Rattle.table.specs.declared.Place.{Place}
 use Rattle.table.specs.declared.Place.the-variants.{Idle, New, Asked, FillWrite, FillCopy, StoreWrite, Meet, StoreCopy, Take, Read, Put, Release, Looking, Placing}
 use Rattle.table.specs.declared.Task.{Task}
@@ -25,16 +22,13 @@ use Rattle.machine.specs.History.{History}
 use Rattle.machine.specs.Basics.{pick}
 use Rattle.machine.specs.Entries.{pendingOk, taskAt, no, Ends, ends}
 use Rattle.machine.specs.Tasks.{holdingOf, idleOf}
-use Rattle.machine.specs.Fill.{fillWriteOf, fillCopyOf}
-use Rattle.machine.specs.Store.{storeWriteOf, meetOf, storeCopyOf}
-use Rattle.machine.specs.Step.{settle, onStepOf, offStepOf, taskStepOf}
+use Rattle.machine.specs.Step.{onStepOf, offStepOf, taskStepOf}
 use Rattle.machine.specs.StillStore.{Store, happenAll}
 use Rattle.machine.specs.Objects.Base.{off-on}
 use Rattle.machine.specs.Objects.State.{Hd, Shape, OfPending, OfStore}
 use Rattle.machine.specs.Objects.Inv.{PendingOk}
 use Rattle.machine.specs.Objects.MoveLaws.{at-place}
-use Rattle.machine.specs.Agree.Encode.{atOperand, atCopied, atPending, atStoring, atPlace, atTask}
-use Rattle.machine.specs.Agree.Agree.{end}
+use Rattle.machine.specs.Agree.Encode.{atPending, atStoring, atPlace, atTask}
 use Rattle.machine.specs.Agree.Names.{sound-held}
 use Rattle.machine.specs.Agree.Read.{object-of}
 use Rattle.machine.specs.Beside.Room.{WantsRoom}

@@ -2,7 +2,7 @@
 use Prim.Native.Nat.{ℕ, _≤_, _<_}
 use mathlib.Core.Path.{_≡_}
 use mathlib.Core.List.{List, map}
-use mathlib.Core.Bool.{Bool, true, false}
+use mathlib.Core.Bool.{false}
 use lib.ListN.{length, getD}
 use Rattle.table.specs.declared.Primary.{Primary}
 use Rattle.table.specs.declared.Pending.{Pending}
@@ -14,7 +14,7 @@ use Rattle.table.specs.declared.Place.the-variants.{Idle, New, Asked, FillWrite
 use Rattle.table.specs.declared.Task.{Task}
 use Rattle.machine.specs.Words.{operandWord, copiedWord}
 use Rattle.machine.specs.StillStore.{Store, Owner, Thing, Doing, resting, making, filling, storing, ownerAt, thingAt, isResting}
-use Rattle.machine.specs.Objects.State.{Shape, State, pendingIs, OfStore}
+use Rattle.machine.specs.Objects.State.{Shape, pendingIs, OfStore}
 
 abbrev pub number : Primary → ℕ
 number p = p .0

@@ -1,31 +1,21 @@
 -- What keeps the store in step with the objects: an entry changes, and the store's task with it or not; objects made, filled, written.
-use Prim.Native.Nat.{ℕ, zero, suc, _+_, _-_, _≤_, _<_}
+use Prim.Native.Nat.{ℕ, zero, suc, _-_, _≤_, _<_}
 use mathlib.Core.Path.{_≡_, refl, ap, sym, _∙_}
-use mathlib.Core.Logic.{_≢_, _⊎_, inl, inr}
-use mathlib.Core.List.{List, [], _∷_, _++_, map}
-use mathlib.Core.Bool.{Bool, true, false}
+use mathlib.Core.Logic.{_≢_}
+use mathlib.Core.List.{List, [], _∷_, map}
 use native.Mathlib.Decide.{ℕ-discrete}
 use native.Mathlib.Omega.{arith}
-use lib.ListN.{length, getD, set, length-set, length-append, List·getD-append, List·getD-map}
-use lib.Seq.{getD-set-same, getD-set-other, getD-append-seam}
-use lib.Dec.{eqb}
-use borrow.Author.Tests.{eq-eqb, ne-eqb, eqb-true, eqb-false}
+use lib.ListN.{getD, set, length-set, List·getD-map}
+use lib.Seq.{getD-set-same, getD-set-other}
 use Rattle.table.specs.declared.Primary.{Primary}
-use Rattle.table.specs.declared.Pending.{Pending}
-use Rattle.table.specs.declared.Pending.the-variants.{Nothing, Making}
-use Rattle.table.specs.declared.Storing.the-variants.{Nowhere, Slot}
-use Rattle.table.specs.declared.Place.{Place}
-use Rattle.table.specs.declared.Place.the-variants.{Idle}
 use Rattle.table.specs.declared.Task.{Task}
-use Rattle.machine.specs.Basics.{pick}
 use Rattle.machine.specs.Words.{primary}
-use Rattle.machine.specs.Entries.{entry, nil}
-use Rattle.machine.specs.Switch.{endedEntry}
-use Rattle.machine.specs.StillStore.{Store, Owner, Thing, Doing, resting, making, filling, storing, owner, thing, store, ownerAt, thingAt, held, withOwner, withThing, holding, doing, makes, fills, writes, fillsThing, writesThing, endsOwner}
-use Rattle.machine.specs.Objects.Base.{upd, upd-same, upd-other, slot, slot-same, slot-other, here?}
-use Rattle.machine.specs.Objects.State.{Shape, root, pendingIs}
-use Rattle.machine.specs.Objects.Ops.{wroteOne, filledOne, oneMore}
-use Rattle.machine.specs.Beside.Still.{number, GoesTo, DoingAt, StillTask, StillThing, Still}
+use Rattle.machine.specs.Entries.{nil}
+use Rattle.machine.specs.StillStore.{Store, Owner, Thing, resting, owner, thing, store, ownerAt, thingAt, held, withOwner, withThing, writesThing}
+use Rattle.machine.specs.Objects.Base.{upd, upd-same, upd-other, slot, slot-same, slot-other}
+use Rattle.machine.specs.Objects.State.{Shape, root}
+use Rattle.machine.specs.Objects.Ops.{wroteOne}
+use Rattle.machine.specs.Beside.Still.{number, StillTask, StillThing, Still}
 
 -- ---- one task
 module _ {sh : Shape} {prim : ℕ → ℕ → ℕ} {ts : ℕ → Task} {roots : List Primary} {w : Store} (k : Still sh prim ts roots w) (t : ℕ) (l : t < 8) where

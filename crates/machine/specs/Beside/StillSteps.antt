@@ -1,7 +1,6 @@
 -- The kinds of action, in store and objects alike: an object made, a slot filled, the instruction ended.
-use Prim.Native.Nat.{ℕ, zero, suc, _+_, _-_, _≤_, _<_}
+use Prim.Native.Nat.{ℕ, suc, _-_, _≤_, _<_}
 use mathlib.Core.Path.{_≡_, refl, ap, sym, _∙_}
-use mathlib.Core.Logic.{_≢_, _⊎_, inl, inr}
 use mathlib.Core.List.{List, [], _∷_, _++_, map}
 use mathlib.Core.Bool.{Bool, true, false}
 use native.Mathlib.Decide.{ℕ-discrete}
@@ -9,11 +8,11 @@ use native.Mathlib.Omega.{arith}
 use lib.ListN.{length, getD, set, length-set, length-append, List·getD-append}
 use lib.Seq.{getD-set-same, getD-set-other, getD-append-seam}
 use lib.Dec.{eqb}
-use borrow.Author.Tests.{eq-eqb, ne-eqb, eqb-true, eqb-false}
+use borrow.Author.Tests.{eq-eqb, ne-eqb}
 use Rattle.table.specs.declared.Primary.{Primary}
 use Rattle.table.specs.declared.Pending.{Pending}
 use Rattle.table.specs.declared.Pending.the-variants.{Nothing, Making}
-use Rattle.table.specs.declared.Storing.the-variants.{Nowhere, Slot}
+use Rattle.table.specs.declared.Storing.the-variants.{Nowhere}
 use Rattle.table.specs.declared.Place.{Place}
 use Rattle.table.specs.declared.Place.the-variants.{Idle}
 use Rattle.table.specs.declared.Task.{Task}
@@ -21,12 +20,12 @@ use Rattle.machine.specs.Basics.{pick}
 use Rattle.machine.specs.Words.{primary}
 use Rattle.machine.specs.Entries.{entry}
 use Rattle.machine.specs.Switch.{endedEntry}
-use Rattle.machine.specs.StillStore.{Store, Owner, Thing, Doing, resting, making, owner, thing, store, ownerAt, thingAt, withOwner, withThing, makes, fillsThing, endsOwner}
-use Rattle.machine.specs.Objects.Base.{upd, upd-same, upd-other, slot}
+use Rattle.machine.specs.StillStore.{Store, Owner, resting, making, owner, thing, ownerAt, thingAt, withOwner, withThing, makes, fillsThing, endsOwner}
+use Rattle.machine.specs.Objects.Base.{upd, upd-same, upd-other}
 use Rattle.machine.specs.Objects.State.{Shape, pendingIs}
 use Rattle.machine.specs.Objects.Ops.{shapeOf, oneMore, goesWith}
 use Rattle.machine.specs.Beside.Still.{number, GoesTo, DoingAt, StillTask, StillThing, Still}
-use Rattle.machine.specs.Beside.StillLaws.{still-entry, still-owner, still-thing, map-set}
+use Rattle.machine.specs.Beside.StillLaws.{still-owner, still-thing, map-set}
 
 -- the next slot of x filled with v, which stands there
 pub still-filled : {sh : Shape} {prim : ℕ → ℕ → ℕ} {ts : ℕ → Task} {roots : List Primary} {w : Store} (prim′ : ℕ → ℕ → ℕ) (wrote : ℕ → ℕ)

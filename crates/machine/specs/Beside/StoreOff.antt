@@ -1,19 +1,17 @@
 -- The write of a Store while off, which ends it.
-use Prim.Native.Nat.{ℕ, suc, _+_, _≤_, _<_}
-use mathlib.Core.Path.{_≡_, refl, ap, sym, _∙_}
-use mathlib.Core.List.{List, [], _∷_}
-use mathlib.Core.Bool.{Bool, true, false}
+use Prim.Native.Nat.{ℕ, _<_}
+use mathlib.Core.Path.{_≡_, refl, sym, _∙_}
+use mathlib.Core.List.{List}
+use mathlib.Core.Bool.{false}
 use native.Mathlib.Omega.{arith}
-use lib.Dec.{ltb, leb}
+use lib.Dec.{ltb}
 use borrow.Author.Tests.{lt-leb}
 use Rattle.table.specs.declared.Limits.{Limits}
 use Rattle.table.specs.declared.Primary.{Primary}
 use Rattle.table.specs.declared.Operand.{Operand}
 use Rattle.table.specs.declared.Storing.the-variants.{Slot}
-use Rattle.table.specs.declared.Place.{Place}
 use Rattle.table.specs.declared.Place.the-variants.{StoreWrite}
 use Rattle.table.specs.declared.Answer.the-variants.{Done}
-use Rattle.table.specs.declared.Task.{Task}
 use Rattle.table.specs.declared.Table.{Table}
 use Rattle.machine.specs.History.{History}
 use Rattle.machine.specs.Words.{operandWord}
@@ -24,19 +22,19 @@ use Rattle.machine.specs.Switch.{endedEntry}
 use Rattle.machine.specs.Step.{settle, settleOf}
 use Rattle.machine.specs.Tasks.{holdingOf}
 use Rattle.machine.specs.StillStore.{Store, storing, ownerAt, thingAt, withThing, writesThing, withOwner, endsOwner, happenAll}
-use Rattle.machine.specs.Objects.Base.{off-on, upd, upd-same, slot}
-use Rattle.machine.specs.Objects.State.{State, OfStore, jobsIn}
-use Rattle.machine.specs.Objects.Inv.{Inv, StoringOk, SoundOperand}
-use Rattle.machine.specs.Objects.Ops.{moves, stores}
+use Rattle.machine.specs.Objects.Base.{off-on, upd, upd-same}
+use Rattle.machine.specs.Objects.State.{State}
+use Rattle.machine.specs.Objects.Inv.{Inv, StoringOk}
+use Rattle.machine.specs.Objects.Ops.{stores}
 use Rattle.machine.specs.Objects.MoveLaws.{at-place, upd-twice}
 use Rattle.machine.specs.Objects.StoreSteps.{store-writes-off}
 use Rattle.machine.specs.Objects.Ends.{ends-inv}
 use Rattle.machine.specs.Agree.Encode.{atPrimary, atOperand, atPlace}
-use Rattle.machine.specs.Agree.Agree.{Agree, Held}
+use Rattle.machine.specs.Agree.Agree.{Held}
 use Rattle.machine.specs.Agree.Names.{sound-held}
 use Rattle.machine.specs.Agree.Read.{object-of}
 use Rattle.machine.specs.Agree.Slots.{stores-agree}
-use Rattle.machine.specs.Beside.Still.{StillTask, Still}
+use Rattle.machine.specs.Beside.Still.{StillTask}
 use Rattle.machine.specs.Beside.StillLaws.{still-written}
 use Rattle.machine.specs.Beside.StillSteps.{still-ended}
 use Rattle.machine.specs.Beside.Good.{Good, Comes}

@@ -1,43 +1,34 @@
 -- The steps of a Store behind the look at the old pointer, while collecting.
-use Prim.Native.Nat.{ℕ, suc, _+_, _≤_, _<_}
-use mathlib.Core.Path.{_≡_, refl, ap, sym, _∙_}
-use mathlib.Core.Logic.{_≢_, _⊎_, inl, inr}
-use mathlib.Core.List.{List, [], _∷_}
-use mathlib.Core.Bool.{Bool, true, false}
+use Prim.Native.Nat.{ℕ, _<_}
+use mathlib.Core.Path.{_≡_, refl}
+use mathlib.Core.List.{List}
+use mathlib.Core.Bool.{true}
 use native.Mathlib.Omega.{arith}
-use lib.ListN.{getD}
-use lib.Dec.{ltb, leb, eqb}
-use borrow.Author.Tests.{lt-leb, eqb-true, eqb-false}
+use lib.Dec.{ltb}
+use borrow.Author.Tests.{lt-leb}
 use Rattle.table.specs.declared.Limits.{Limits}
 use Rattle.table.specs.declared.Primary.{Primary}
 use Rattle.table.specs.declared.Operand.{Operand}
 use Rattle.table.specs.declared.Copied.{Copied}
-use Rattle.table.specs.declared.Storing.{Storing}
-use Rattle.table.specs.declared.Storing.the-variants.{Nowhere, Slot}
-use Rattle.table.specs.declared.Then.the-variants.{ToStoreCopy}
-use Rattle.table.specs.declared.Place.{Place}
+use Rattle.table.specs.declared.Storing.the-variants.{Slot}
 use Rattle.table.specs.declared.Place.the-variants.{StoreWrite, Meet, StoreCopy, Take}
-use Rattle.table.specs.declared.Task.{Task}
 use Rattle.table.specs.declared.Table.{Table}
 use Rattle.machine.specs.History.{History}
-use Rattle.machine.specs.Basics.{pick}
-use Rattle.machine.specs.Words.{primary, operandWord, copiedWord, objectOf, lookOf}
-use Rattle.machine.specs.Entries.{taskAt}
+use Rattle.machine.specs.Words.{operandWord, copiedWord}
 use Rattle.machine.specs.Begin.{isPointer}
-use Rattle.machine.specs.Store.{storeWriteOf, meetOf, storeCopyOf}
+use Rattle.machine.specs.Store.{storeWriteOf, storeCopyOf}
 use Rattle.machine.specs.Step.{settle, settleOf}
 use Rattle.machine.specs.Tasks.{holdingOf}
-use Rattle.machine.specs.StillStore.{Store, Doing, storing, ownerAt, happenAll}
-use Rattle.machine.specs.Objects.State.{State, isRenamed, OfStore, IsSeen, IsPlaced}
-use Rattle.machine.specs.Objects.Inv.{Inv, Sound, StoringOk, PlaceOk, SoundOperand, SoundCopied}
-use Rattle.machine.specs.Objects.Ops.{goes, moves, stores, copies}
-use Rattle.machine.specs.Objects.StoreSteps.{store-writes, meets-white, meets-goes, store-copies}
-use Rattle.machine.specs.Agree.Encode.{atPrimary, atOperand, atCopied, atPlace, atTask}
-use Rattle.machine.specs.Agree.Agree.{Agree, Held}
+use Rattle.machine.specs.StillStore.{Store, storing, ownerAt, happenAll}
+use Rattle.machine.specs.Objects.State.{isRenamed, OfStore, IsSeen, IsPlaced}
+use Rattle.machine.specs.Objects.Inv.{StoringOk, SoundOperand, SoundCopied}
+use Rattle.machine.specs.Objects.Ops.{goes, stores, copies}
+use Rattle.machine.specs.Objects.StoreSteps.{store-writes, store-copies}
+use Rattle.machine.specs.Agree.Encode.{atPrimary, atOperand, atCopied, atPlace}
+use Rattle.machine.specs.Agree.Agree.{Held}
 use Rattle.machine.specs.Agree.Names.{sound-held}
 use Rattle.machine.specs.Agree.Read.{object-of}
 use Rattle.machine.specs.Agree.Slots.{stores-agree, copies-agree}
-use Rattle.machine.specs.Beside.Still.{DoingAt, Still}
 use Rattle.machine.specs.Beside.StillLaws.{still-written}
 use Rattle.machine.specs.Beside.Doing.{still-goes}
 use Rattle.machine.specs.Objects.CountLaws.{counts-pays, counts-stores}

@@ -1,10 +1,9 @@
 -- What a change keeps for a task whose entry it leaves alone: its registers, its pending object, its Store, its place.
-use Prim.Native.Nat.{ℕ, zero, suc, _+_, _≤_, _<_}
-use mathlib.Core.Path.{_≡_, refl, ap, sym, _∙_}
-use mathlib.Core.Logic.{_≢_, _⊎_, inl, inr}
-use mathlib.Core.Bool.{Bool, true, false}
+use Prim.Native.Nat.{ℕ, _≤_, _<_}
+use mathlib.Core.Path.{_≡_, refl, sym, _∙_}
+use mathlib.Core.Logic.{_⊎_}
+use mathlib.Core.Bool.{Bool, true}
 use native.Mathlib.Omega.{arith}
-use lib.Dec.{ltb}
 use Rattle.table.specs.declared.Operand.{Operand}
 use Rattle.table.specs.declared.Operand.the-variants.{Plain, Pointer}
 use Rattle.table.specs.declared.Copied.{Copied}
@@ -18,7 +17,7 @@ use Rattle.table.specs.declared.Then.the-variants.{ToWrite, ToStoreCopy, ToFill
 use Rattle.table.specs.declared.Place.{Place}
 use Rattle.table.specs.declared.Place.the-variants.{Idle, New, Asked, FillWrite, FillCopy, StoreWrite, Meet, StoreCopy, Take, Read, Put, Release, Looking, Placing}
 use Rattle.table.specs.declared.Task.{Task}
-use Rattle.machine.specs.Objects.State.{Hd, white, claimed, count, locked, Shape, State, IsSeen, IsPlaced, pendingIs, OfPending, OfStore, On}
+use Rattle.machine.specs.Objects.State.{Hd, claimed, locked, Shape, IsSeen, IsPlaced, pendingIs, OfPending, OfStore, On}
 use Rattle.machine.specs.Objects.Inv.{Sound, SoundOperand, SoundCopied, PendingOk, StoringOk, EntryOk, HalfFilled, ThenOk, PlaceOk}
 
 pub record Keep (K : ℕ → Type 0) (sh sh′ : Shape) (hd hd′ : ℕ → Hd) (prim prim′ rep rep′ : ℕ → ℕ → ℕ) (has has′ : ℕ → ℕ → Bool)

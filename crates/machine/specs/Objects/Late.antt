@@ -1,7 +1,6 @@
 -- One entry changes: which Stores are late, and which are at Meet.
 use Prim.Native.Nat.{ℕ}
-use mathlib.Core.Path.{_≡_, refl, sym}
-use mathlib.Core.Logic.{_≢_}
+use mathlib.Core.Path.{_≡_}
 use native.Mathlib.Decide.{ℕ-discrete}
 use Rattle.table.specs.declared.Task.{Task}
 use Rattle.machine.specs.Objects.Base.{upd, upd-same, upd-other}

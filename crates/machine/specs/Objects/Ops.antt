@@ -1,5 +1,5 @@
 -- What the steps make of the heap by objects: one setter for each kind of change, each with the entry that task t gets.
-use Prim.Native.Nat.{ℕ, zero, suc}
+use Prim.Native.Nat.{ℕ, suc}
 use mathlib.Core.List.{List, [], _∷_}
 use mathlib.Core.Bool.{Bool, true, false}
 use lib.Dec.{eqb}
@@ -10,7 +10,7 @@ use Rattle.table.specs.declared.Task.{Task}
 use Rattle.machine.specs.Basics.{pick}
 use Rattle.machine.specs.Entries.{entry}
 use Rattle.machine.specs.Objects.Base.{upd, slot}
-use Rattle.machine.specs.Objects.State.{Hd, white, claimed, count, locked, Shape, Snapshot, State}
+use Rattle.machine.specs.Objects.State.{Hd, white, count, Shape, Snapshot, State}
 
 abbrev pub state : Shape → (ℕ → ℕ → ℕ) → (ℕ → ℕ → ℕ) → (ℕ → ℕ → Bool) → (ℕ → Hd) → List ℕ → (ℕ → Task) → List Primary → Bool → Snapshot → State
 state shape prim rep has hd stack tasks roots on snap =

@@ -1,13 +1,11 @@
 -- The heap by objects: every object ever made has a number from 1 on, and nil is 0. Nothing here has an address.
 -- Task entries are those of the table, with an object's number where the table has an address.
-use Prim.Native.Nat.{ℕ, zero, suc, _+_, _≤_, _<_}
+use Prim.Native.Nat.{ℕ, suc}
 use mathlib.Core.Path.{_≡_}
-use mathlib.Core.List.{List, []}
+use mathlib.Core.List.{List}
 use mathlib.Core.Bool.{Bool, true, false}
 use lib.ListN.{getD}
 use Rattle.table.specs.declared.Primary.{Primary}
-use Rattle.table.specs.declared.Operand.{Operand}
-use Rattle.table.specs.declared.Operand.the-variants.{Plain, Pointer}
 use Rattle.table.specs.declared.Copied.{Copied}
 use Rattle.table.specs.declared.Copied.the-variants.{Same, Renamed}
 use Rattle.table.specs.declared.Pending.{Pending}

@@ -19,7 +19,6 @@ pub mod Slots
 pub mod Holdings
 pub mod Lowest
 pub mod Search
-pub mod Readied
 pub mod Block
 pub mod Make
 pub mod Older

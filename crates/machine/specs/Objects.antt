@@ -19,7 +19,6 @@ pub mod FillLaws
 pub mod FillSteps
 pub mod NewSteps
 pub mod Ends
-pub mod Onward
 pub mod BeginSteps
 pub mod Start
 pub mod Counts

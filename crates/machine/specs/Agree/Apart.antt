@@ -2,15 +2,12 @@
 use Prim.Native.Nat.{ℕ, zero, suc, _+_, _-_, _≤_, _<_}
 use mathlib.Core.Path.{_≡_, ap, sym}
 use mathlib.Core.Logic.{_≢_, _⊎_, inl, inr}
-use mathlib.Core.List.{List}
 use mathlib.Core.Bool.{Bool}
 use native.Mathlib.Decide.{ℕ-discrete}
 use native.Mathlib.Omega.{arith}
-use Rattle.table.specs.declared.Table.{Table}
-use Rattle.machine.specs.Objects.State.{Hd, Shape, State, IsPlaced}
-use Rattle.machine.specs.Objects.Inv.{Inv}
+use Rattle.machine.specs.Objects.State.{Hd, Shape, IsPlaced}
 use Rattle.machine.specs.Agree.Mem.{Loc, P, R, S, Apart}
-use Rattle.machine.specs.Agree.Agree.{Held, addr, Written, Ok, Beside, Lay, end, Agree}
+use Rattle.machine.specs.Agree.Agree.{Held, addr, Written, Ok, Beside, Lay, end}
 
 -- a word of a replica that means something is one of its block
 pub written-in : (len : ℕ) (has : ℕ → Bool) (o : ℕ) → Written len has o → o < len + 2
@@ -71,8 +68,3 @@ apart {K} {sh} {hd} has {pa} {ra} {base} {a} {top} {end} {size} k in-len low hig
         absurd (off-stack (pa y) (sh .len y) base a top end u o (k .where-p y (w .0)) (k .inside y (w .0) .0) low high (pp y u (w .1)) (v .0) (v .1) (sym e))
     go (S o) (R y u) v w e = absurd (omega (arith, k .where-r y (w .0) (w .1), written-in (sh .len y) (has y) u (w .2)))
     go (S o) (S u) v w e = ap S e
-
-pub apart-of : {K : ℕ → Type 0} {p s : ℕ} {pa ra : ℕ → ℕ} {o : State} {t : Table} {ws : List ℕ} → Inv K p s o → Agree K pa ra o t ws
-    → Apart (addr pa ra) (Ok K (o .shape) (o .hd) (o .has) (t .marks .top) (end t))
-apart-of {K} {p} {s} {pa} {ra} {o} {t} {ws} v k =
-    apart (o .has) (k .lay) (v .shapes .written) (k .marked .based) (omega (arith, k .marked .free))

@@ -29,6 +29,7 @@ use Rattle.machine.specs.Objects.Ops.{state, goes, goesWith, moves}
 use Rattle.machine.specs.Agree.Encode.{atPrimary, atPending, atPlace, atTask}
 use Rattle.machine.specs.Agree.Mem.{Holds}
 use Rattle.machine.specs.Agree.Agree.{addr, Ok, content, Lay, bottom, end, Agree}
+use Rattle.machine.specs.Agree.MidwayRead.{space-low, space-high}
 
 abbrev pub entered : Table → Marks → ℕ → Task → Table
 entered t m i e = table (t .limits) (t .upper) (t .on) m (t .life) (t .roots) (set (t .tasks) i e)
@@ -49,10 +50,6 @@ pub entered-place : (pa ra : ℕ → ℕ) (o : State) (t : Table) (i : ℕ) (pl 
 unfolding withPlace withTask
 entered-place pa ra o t i pl e = rw e
 
-pub entered-task : (t : Table) (i : ℕ) (e : Task) → withTask t i e ≡ entered t (t .marks) i e
-unfolding withTask
-entered-task t i e = refl
-
 pub entered-register : (pa ra : ℕ → ℕ) (o : State) (t : Table) (i r : ℕ) (x : Primary) → taskAt t i ≡ atTask pa ra (o .tasks i)
     → withRegister t i r (atPrimary pa x)
     ≡ entered t (t .marks) i (atTask pa ra (entry (set (o .tasks i .regs) r x) (o .tasks i .pending) (o .tasks i .storing) (o .tasks i .place)))
@@ -72,9 +69,8 @@ entered-ended pa ra o t i m (Making x r len f) e = rw e (on (eqb f len))
 
 -- ---- limits of the spaces
 pub bounds : (upper : Bool) (h : ℕ) → (2 ≤ bottomOf upper h) × (endOf upper h ≡ bottomOf upper h + h) × (endOf upper h ≤ 2 + 2 * h)
-unfolding bottomOf endOf
-bounds true h = (omega arith, refl, omega arith)
-bounds false h = (omega arith, refl, omega arith)
+unfolding endOf
+bounds upper h = (space-low upper h, refl, space-high upper h)
 
 -- ---- jobs
 abbrev pub jobs : (ℕ → Task) → ℕ → ℕ

@@ -17,12 +17,12 @@ use Rattle.machine.specs.Basics.{pick}
 use Rattle.machine.specs.Numbers.{refusal}
 use Rattle.machine.specs.Words.{bottomOf, endOf}
 use Rattle.machine.specs.Gate.{limitsOk, sizesOk, marksOk, gateOf, behind, taskGateOf, pairGateOf, tableGate, callGate, pairGate}
-use Rattle.machine.specs.Bounds.{Limited, Sized, Sound}
+use Rattle.machine.specs.Bounds.{Limited, Sized}
 use Rattle.machine.specs.Tasks.{holdingOf}
 use Rattle.machine.specs.Objects.Base.{sumTo}
 use Rattle.machine.specs.Objects.State.{State, jobsIn}
 use Rattle.machine.specs.Agree.Agree.{Agree}
-use Rattle.machine.specs.Agree.Spaces.{end-inside, top-high, a-low}
+use Rattle.machine.specs.Agree.Spaces.{top-high}
 
 -- ---- jobs in hand: at most one a task
 pub jobs-one : (h : Holding) → jobsIn h ≤ 1
@@ -78,20 +78,6 @@ module _ {K : ℕ → Type 0} {pa ra : ℕ → ℕ} {o : State} {t : Table} {ws 
         k .marked .jobs,
         sum-ones (t .limits .p) (λ i. jobsIn (holdingOf (o .tasks i .place))) (λ i. jobs-one (holdingOf (o .tasks i .place))),
       )
-
-  pub sound-of : Sound (t .limits) (t .upper) (t .marks) (length ws)
-  sound-of = record {
-    sized = k .sized;
-    based = k .marked .based;
-    fits = record {
-      low = a-low k;
-      free = k .marked .free;
-      high = top-high k;
-      inside = end-inside k;
-      size = omega (arith, k .sized .size, k .sized .limited .h-high);
-      counted = omega (arith, k .marked .copies, k .sized .limited .h-high);
-    };
-  }
 
   -- the limits that the tests ask for: S is at least 1, which no clause of `Agree` says
   pub table-gate : 1 ≤ t .limits .s → tableGate t ws ≡ Open

@@ -11,7 +11,7 @@ use Rattle.table.specs.declared.Table.{Table}
 use Rattle.machine.specs.Objects.State.{Hd, Shape, State, IsPlaced}
 use Rattle.machine.specs.Objects.Inv.{Sound}
 use Rattle.machine.specs.Agree.Agree.{Held, Beside, Lay, end, Agree}
-use Rattle.machine.specs.Agree.Spaces.{bottom-low}
+use Rattle.machine.specs.Agree.MidwayRead.{space-low}
 
 -- a kept object that is not nil has words
 pub held-of : (K : ℕ → Type 0) (sh : Shape) (x : ℕ) → x ≢ 0 → K x → x ≤ sh .n → Held K sh x
@@ -65,22 +65,6 @@ module _ {K : ℕ → Type 0} {sh : Shape} {hd : ℕ → Hd} {pa ra : ℕ → �
       go (yes z) = z
       go (no n) = absurd (omega (arith, k .where-r x (held-of K sh x n kx mx) ix))
 
-  pub ra-inj : (x y : ℕ) → K x → x ≤ sh .n → IsPlaced (hd x) → K y → y ≤ sh .n → IsPlaced (hd y) → ra x ≡ ra y → x ≡ y
-  ra-inj x y kx mx ix ky my iy e = go (ℕ-discrete x 0) (ℕ-discrete y 0) (ℕ-discrete x y)
-    where
-      go : Dec (x ≡ 0) → Dec (y ≡ 0) → Dec (x ≡ y) → x ≡ y
-      go p q (yes z) = z
-      go (yes p) q (no n) = absurd (n (p ∙ sym (ra-nil y ky my iy (sym e ∙ ap ra p ∙ k .nilr))))
-      go (no p) (yes q) (no n) = absurd (n (ra-nil x kx mx ix (e ∙ ap ra q ∙ k .nilr) ∙ sym q))
-      go (no p) (no q) (no n) =
-          absurd (beside-ne (ra x) (sh .len x) (ra y) (sh .len y) (k .apart-r x y (held-of K sh x p kx mx) (held-of K sh y q ky my) ix iy n) e)
-
-  pub ra-eqb : (x y : ℕ) → K x → x ≤ sh .n → IsPlaced (hd x) → K y → y ≤ sh .n → IsPlaced (hd y) → eqb (ra x) (ra y) ≡ eqb x y
-  ra-eqb x y kx mx ix ky my iy = names-eqb ra x y (ra-inj x y kx mx ix ky my iy)
-
-  pub ra-zero : (x : ℕ) → K x → x ≤ sh .n → IsPlaced (hd x) → eqb (ra x) 0 ≡ eqb x 0
-  ra-zero x kx mx ix = ap (eqb (ra x)) (sym (k .nilr)) ∙ names-eqb ra x 0 (λ e. ra-nil x kx mx ix (e ∙ k .nilr))
-
 -- the pointer of a primary and of a replica is at least 4
 pub pa-four : {K : ℕ → Type 0} {pa ra : ℕ → ℕ} {o : State} {t : Table} {ws : List ℕ} → Agree K pa ra o t ws
     → (x : ℕ) → Held K (o .shape) x → 4 ≤ pa x
@@ -88,4 +72,4 @@ pa-four k x h = k .lay .inside x h .0
 
 pub ra-four : {K : ℕ → Type 0} {pa ra : ℕ → ℕ} {o : State} {t : Table} {ws : List ℕ} → Agree K pa ra o t ws
     → (x : ℕ) → Held K (o .shape) x → IsPlaced (o .hd x) → 4 ≤ ra x
-ra-four {K} {pa} {ra} {o} {t} {ws} k x h i = omega (arith, bottom-low (t .upper) (t .limits .h), k .lay .where-r x h i)
+ra-four {K} {pa} {ra} {o} {t} {ws} k x h i = omega (arith, space-low (t .upper) (t .limits .h), k .lay .where-r x h i)

@@ -5,28 +5,21 @@ use mathlib.Core.List.{List, [], _∷_}
 use mathlib.Core.Bool.{true}
 use native.Mathlib.Omega.{arith}
 use lib.ListN.{length, getD}
-use borrow.Author.Tests.{le-ltb, lt-ltb, le-leb, lt-leb, ne-eqb}
+use borrow.Author.Tests.{le-ltb, lt-ltb, le-leb, lt-leb}
 use Rattle.table.specs.declared.Table.{Table}
 use Rattle.table.specs.declared.Object.the-variants.{Whole}
-use Rattle.table.specs.declared.Look.{Look}
-use Rattle.table.specs.declared.Look.the-variants.{White, Claimed, Forwarded}
+use Rattle.table.specs.declared.Look.the-variants.{Forwarded}
 use Rattle.table.specs.declared.Copying.{Copying}
 use Rattle.table.specs.declared.Copying.the-variants.{Count, Locked, Neither}
-use Rattle.machine.specs.Words.{primary, replica, descriptor, lengthIn, pointersIn, objectBy, objectOf, headerOf, lookOf, copyingOf}
+use Rattle.machine.specs.Words.{primary, replica, descriptor, lengthIn, pointersIn, objectOf, headerOf, lookOf, copyingOf}
 use Rattle.machine.specs.Objects.State.{Hd, white, claimed, count, locked, State, IsPlaced, left, Late}
 use Rattle.machine.specs.Objects.Inv.{Colours, Inv}
 use Rattle.machine.specs.Agree.Encode.{headerWord, copyWord, slotWord}
 use Rattle.machine.specs.Agree.Mem.{P, R, S}
 use Rattle.machine.specs.Agree.Agree.{Held, end, Agree}
+use Rattle.machine.specs.Agree.MidwayRead.{foundBy, whole, forwarded}
 use Rattle.machine.specs.Agree.Spaces.{end-inside, top-high, a-high}
 use Rattle.machine.specs.Agree.Names.{pa-four, ra-four}
-
--- what a look finds, and what a replica's header says, by the object's header
-abbrev pub lookIs : ℕ → ℕ → Hd → Look
-lookIs r len white = White len
-lookIs r len (claimed t) = Claimed
-lookIs r len (count c) = Forwarded (replica r) len
-lookIs r len (locked i t) = Forwarded (replica r) len
 
 abbrev pub copyingIs : Hd → Copying
 copyingIs white = Neither
@@ -41,14 +34,6 @@ length-in len m l = omega arith
 
 pub pointers-in : (len m : ℕ) → m ≤ 255 → pointersIn (descriptor len m) ≡ m
 pointers-in len m l = omega arith
-
-pub whole : (n s p len m : ℕ) → len ≤ s → m ≤ len → s ≤ 255 → p + len ≤ n → objectBy n s p (descriptor len m) ≡ Whole len m
-whole n s p len m a b c d =
-    rw (length-in len m (omega arith), pointers-in len m (omega arith), le-ltb s len a, le-ltb len m b, le-ltb (n - p) len (omega arith)) refl
-
-forwarded : (n len h : ℕ) → 4 ≤ h → h + len ≤ n → headerOf n len h ≡ Forwarded (replica h) len
-forwarded n len h a b =
-    rw (ne-eqb h 0 (λ e. omega arith), ne-eqb h 1 (λ e. omega arith), le-ltb h 4 a, le-ltb n h (omega arith), le-ltb (n - h) len (omega arith)) refl
 
 counted : (len c : ℕ) → c ≤ len → copyingOf len c ≡ Count c
 unfolding copyingOf
@@ -91,37 +76,14 @@ module _ {K : ℕ → Type 0} {pa ra : ℕ → ℕ} {o : State} {t : Table} {ws 
   pointer-word x j h l m = slot-of x j h l ∙ rw (lt-ltb j (o .shape .ptr x) m) refl
 
   -- ---- words of a replica
-  pub twin-descriptor-word : (x : ℕ) → Held K (o .shape) x → IsPlaced (o .hd x) → getD ws (ra x - 2) 0 ≡ descriptor (o .shape .len x) (o .shape .ptr x)
-  twin-descriptor-word x h i =
-      let e : ra x - 2 ≡ ra x - 2 + 0 = omega arith in
-      ap (λ i. getD ws i 0) e ∙ k .mem (R x 0) (h, i, tt) (λ i. i)
-
   pub twin-header-word : (x : ℕ) → Held K (o .shape) x → IsPlaced (o .hd x) → getD ws (ra x - 1) 0 ≡ copyWord (o .hd x)
   twin-header-word x h i =
       let e : ra x - 1 ≡ ra x - 2 + 1 = omega (arith, ra-four k x h i) in
       ap (λ i. getD ws i 0) e ∙ k .mem (R x 1) (h, i, tt) (λ i. i)
 
-  pub twin-slot-of : (x j : ℕ) → Held K (o .shape) x → IsPlaced (o .hd x) → j < o .shape .len x → o .has x j ≡ true
-      → getD ws (ra x + j) 0 ≡ slotWord ra (o .shape .ptr x) j (o .rep x j)
-  twin-slot-of x j h i l w =
-      let e : ra x + j ≡ ra x - 2 + suc (suc j) = omega (arith, ra-four k x h i) in
-      ap (λ i. getD ws i 0) e ∙ k .mem (R x (suc (suc j))) (h, i, (l, w)) (λ i. i)
-
   -- ---- where writes go: headers and slots lie inside the buffer
-  pub header-in : (x : ℕ) → Held K (o .shape) x → pa x - 1 < length ws
-  header-in x h = omega (arith, k .lay .inside x h)
-
-  pub slot-in : (x j : ℕ) → Held K (o .shape) x → j < o .shape .len x → pa x + j < length ws
-  slot-in x j h l = omega (arith, k .lay .inside x h)
-
   pub twin-inside : (x : ℕ) → Held K (o .shape) x → IsPlaced (o .hd x) → ra x + o .shape .len x ≤ length ws
   twin-inside x h i = omega (arith, k .lay .where-r x h i, a-high k, top-high k, end-inside k)
-
-  pub twin-header-in : (x : ℕ) → Held K (o .shape) x → IsPlaced (o .hd x) → ra x - 1 < length ws
-  twin-header-in x h i = omega (arith, ra-four k x h i, twin-inside x h i)
-
-  pub twin-slot-in : (x j : ℕ) → Held K (o .shape) x → IsPlaced (o .hd x) → j < o .shape .len x → ra x + j < length ws
-  twin-slot-in x j h i l = omega (arith, twin-inside x h i)
 
   -- ---- the stack
   pub stack-room : {x : ℕ} {st : List ℕ} → o .stack ≡ x ∷ st → t .marks .top < end t
@@ -135,13 +97,6 @@ module _ {K : ℕ → Type 0} {pa ra : ℕ → ℕ} {o : State} {t : Table} {ws 
 
   pub stack-empty : o .stack ≡ [] → t .marks .top ≡ end t
   stack-empty e = omega (arith, k .marked .stack, ap length e)
-
-  pub empty-stack : t .marks .top ≡ end t → o .stack ≡ []
-  empty-stack e = go (o .stack) refl
-    where
-      go : (st : List ℕ) → o .stack ≡ st → st ≡ []
-      go [] q = refl
-      go (x ∷ st) q = absurd (omega (arith, stack-room q))
 
 -- ---- the checks, of objects
 module _ {K : ℕ → Type 0} {p : ℕ} {pa ra : ℕ → ℕ} {o : State} {t : Table} {ws : List ℕ} (v : Inv K p (t .limits .s) o) (k : Agree K pa ra o t ws) where
@@ -157,13 +112,13 @@ module _ {K : ℕ → Type 0} {p : ℕ} {pa ra : ℕ → ℕ} {o : State} {t : T
   twin-of x h i = forwarded (length ws) (o .shape .len x) (ra x) (ra-four k x h i) (twin-inside k x h i)
 
   header-of : (x : ℕ) → Held K (o .shape) x → (d : Hd) → o .hd x ≡ d
-      → headerOf (length ws) (o .shape .len x) (headerWord (ra x) d) ≡ lookIs (ra x) (o .shape .len x) d
+      → headerOf (length ws) (o .shape .len x) (headerWord (ra x) d) ≡ foundBy (ra x) (o .shape .len x) d
   header-of x h white e = refl
   header-of x h (claimed u) e = refl
   header-of x h (count c) e = twin-of x h (rw e tt)
   header-of x h (locked j u) e = twin-of x h (rw e tt)
 
-  pub look-of : (x : ℕ) → Held K (o .shape) x → lookOf ws (t .limits .s) (primary (pa x)) ≡ lookIs (ra x) (o .shape .len x) (o .hd x)
+  pub look-of : (x : ℕ) → Held K (o .shape) x → lookOf ws (t .limits .s) (primary (pa x)) ≡ foundBy (ra x) (o .shape .len x) (o .hd x)
   unfolding lookOf
   look-of x h = rw (object-of x h, header-word k x h) (header-of x h (o .hd x) refl)
 

@@ -1,9 +1,8 @@
 -- Every call but a step: the store that is told of it stands beside the table again, and the answer is not 11; a Load and a Same answer what the store does.
 use Prim.Native.Nat.{ℕ}
-use mathlib.Core.Path.{_≡_, refl}
+use mathlib.Core.Path.{_≡_}
 use mathlib.Core.List.{List, []}
 use Rattle.table.specs.declared.Limits.{Limits}
-use Rattle.table.specs.declared.Place.{Place}
 use Rattle.table.specs.declared.Table.{Table}
 use Rattle.table.specs.declared.Answer.{Answer}
 use Rattle.table.specs.declared.Outcome.{Outcome}
@@ -11,7 +10,6 @@ use Rattle.machine.specs.History.{History}
 use Rattle.machine.specs.Call.{Call}
 use Rattle.machine.specs.Calls.{call}
 use Rattle.machine.specs.StillStore.{Store, told, loadAnswer, sameAnswer}
-use Rattle.machine.specs.Kinds.{made}
 use Rattle.machine.specs.Beside.Good.{Good, Undamaged}
 use Rattle.machine.specs.Beside.Completes.{Meant}
 use Rattle.machine.specs.Beside.Registers.{move-meant, clear-meant, put-meant, get-meant, report-meant, same-meant}
@@ -33,22 +31,6 @@ NotStep (Call.Put task root r) = Unit {0}
 NotStep (Call.Get task r root) = Unit {0}
 NotStep (Call.Step task) = ⊥
 NotStep Call.Report = Unit {0}
-
--- such a call makes no action of the store's kinds
-pub made-none : (c : Call) → NotStep c → (x : Answer) (before after : Place) → made c x before after ≡ []
-made-none (Call.New task r len m) n x before after = refl
-made-none (Call.Fill task w) n x before after = refl
-made-none (Call.FillPointer task r) n x before after = refl
-made-none (Call.Load task to from slot) n x before after = refl
-made-none (Call.Store task o slot w) n x before after = refl
-made-none (Call.StorePointer task o slot r) n x before after = refl
-made-none (Call.Move task to from) n x before after = refl
-made-none (Call.Clear task r) n x before after = refl
-made-none (Call.Same task a b) n x before after = refl
-made-none (Call.Put task root r) n x before after = refl
-made-none (Call.Get task r root) n x before after = refl
-made-none (Call.Step task) n x before after = absurd n
-made-none Call.Report n x before after = refl
 
 meant-keeps : {l : Limits} {hy : History} {ws : List ℕ} {f : Answer → Store} {y : Answer} {r : Outcome} → Meant l hy ws f y r → Keeps l hy ws f r
 meant-keeps k = (k .good, k .fine)

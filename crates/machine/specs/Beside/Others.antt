@@ -174,11 +174,6 @@ others-stay c t ws u d same = on (others c t ws u d)
     on (inr (inl e)) = off-on (sym (e .1) ∙ sym same ∙ e .2)
     on (inr (inr e)) = off-on (sym (e .2) ∙ same ∙ e .1)
 
--- what a flip and a switch-over leave of an entry
-pub unasked-keeps : (e : Task) → (unaskedEntry e .regs ≡ e .regs) × (unaskedEntry e .pending ≡ e .pending) × (unaskedEntry e .storing ≡ e .storing)
-unfolding unaskedEntry
-unasked-keeps e = (refl, refl, refl)
-
 pub renamed-keeps : (ws : List ℕ) (s : ℕ) (e : Task) → (newEntry ws s e .storing ≡ e .storing) × (newEntry ws s e .place ≡ e .place)
 unfolding newEntry
 renamed-keeps ws s e = (refl, refl)

@@ -1,5 +1,5 @@
 -- Functions changed at one number, lists without a number twice, and sums: what the theory of the heap leans on.
-use mathlib.Core.Path.{_≡_, refl, ap, sym}
+use mathlib.Core.Path.{_≡_, refl, ap}
 use mathlib.Core.Logic.{_≢_, _⊎_}
 use mathlib.Core.List.{List, [], _∷_}
 use mathlib.Core.Bool.{true, false}
@@ -39,10 +39,6 @@ upd-all P f x a p q y = go (ℕ-discrete y x)
     go : Dec (y ≡ x) → P y (upd f x a y)
     go (yes e) = rw e (rw upd-same p)
     go (no h) = rw (upd-other f x a y h) (q y h)
-
--- a change that changes nothing
-pub upd-id : {A : Type 0} (f : ℕ → A) (x : ℕ) (a : A) → f x ≡ a → (y : ℕ) → upd f x a y ≡ f y
-upd-id f x a e = upd-all (λ y b. b ≡ f y) f x a (sym e) (λ y q. refl)
 
 -- the same for a list and `set`
 pub set-all : {A : Type 0} (Q : ℕ → A → Type 0) (l : List A) (x : ℕ) (a d : A)

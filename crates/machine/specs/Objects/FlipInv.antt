@@ -13,8 +13,8 @@ use lib.Dec.{eqb, ltb}
 use borrow.Author.Tests.{eqb-true, eqb-false, lt-ltb, le-ltb}
 use Rattle.machine.specs.Basics.{pick}
 use Rattle.machine.specs.Flip.{unaskedEntry}
-use Rattle.machine.specs.Objects.Base.{clash, upd-other, upd-all, In, Nodup}
-use Rattle.machine.specs.Objects.State.{root, pendingIs, Hd, white, count, State, IsPlaced}
+use Rattle.machine.specs.Objects.Base.{upd-other, upd-all, In, Nodup}
+use Rattle.machine.specs.Objects.State.{root, pendingIs, Hd, count, State}
 use Rattle.machine.specs.Objects.Flipped.{Restful, Comes, Left, Twinned, flipped-inv}
 use Rattle.machine.specs.Objects.Inv.{Off, Inv}
 use Rattle.machine.specs.Objects.Ops.{state, push, twins, foundIn, flips}
@@ -143,16 +143,6 @@ mid-twin {o} {o₁} {vs} x k p n = record {
     into : (y : ℕ) → In y (x ∷ vs) → 0 < y → 0 < o .shape .fill y → In y (o₁ .stack) ⊎ ((y ≡ x) × (0 < o .shape .fill x))
     into y (inl e) a b = inr (e, omega (arith, ap (o .shape .fill) e))
     into y (inr i) a b = inl (k .grey y i a b)
-
--- which have their replica: those that are not white
-pub mid-white : {o o₁ : State} {vs : List ℕ} (x : ℕ) → Mid o vs o₁ → 0 < x → o₁ .hd x ≡ white → In x vs → ⊥
-mid-white {o} x k p e i = let z : _≡_ {A = Hd} white (count (o .shape .fill x)) = sym e ∙ k .hd₁ x i p in let y : _≡_ {A = ℕ} 0 1 = cc in clash y
-
-pub mid-placed : {o o₁ : State} {vs : List ℕ} (x : ℕ) → Mid o vs o₁ → 0 < x → In x vs → IsPlaced (o₁ .hd x)
-mid-placed x k p i = rw (k .hd₁ x i p) tt
-
-pub mid-not : {o o₁ : State} {vs : List ℕ} (x : ℕ) → Mid o vs o₁ → o .hd x ≡ white → (In x vs → ⊥) → o₁ .hd x ≡ white
-mid-not x k e n = k .same x n ∙ e
 
 -- ---- the flip
 -- tasks from p on have nothing, and there are eight roots and eight registers: whoever visits those visits all that comes

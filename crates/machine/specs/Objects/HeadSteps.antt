@@ -23,7 +23,7 @@ use Rattle.machine.specs.Objects.Ops.{goes, push, moves, heads, twins}
 use Rattle.machine.specs.Objects.Keep.{of-store}
 use Rattle.machine.specs.Objects.Late.{meeting-after}
 use Rattle.machine.specs.Objects.MoveLaws.{at-place, or-right, go-inv}
-use Rattle.machine.specs.Objects.HeadLaws.{placed-seen, in-push, push-in, push-out, push-into, push-nodup, unstacked, HeadOk, head-placed, head-colours, head-inv}
+use Rattle.machine.specs.Objects.HeadLaws.{placed-seen, in-push, push-in, push-out, push-into, push-nodup, unstacked, HeadOk, head-placed, head-inv}
 
 -- ---- what follows a look, before and after
 then-goes : (K : ℕ → Type 0) (sh : Shape) (hd hd′ : ℕ → Hd) (prim : ℕ → ℕ → ℕ) (Mt Mt′ : ℕ → ℕ → Type 0) (t : ℕ) (e : Task) (pl : Place) (q : ℕ) (th : Then)
@@ -205,11 +205,6 @@ twin-ok {sh = sh} {g = g} {hd = hd} {has = has} {stack = stack} y h₀ c a m e u
 
     none : (j : ℕ) → sh .len y ≤ j → j < sh .fill y → ⊥
     none j l n = omega (arith, a .filled y, a .written y)
-
-pub twin-colours : {K : ℕ → Type 0} {s : ℕ} {sh : Shape} {g : Snapshot} {hd : ℕ → Hd} {prim rep : ℕ → ℕ → ℕ} {has : ℕ → ℕ → Bool} {stack : List ℕ}
-    {Lt : ℕ → ℕ → Type 0} (y : ℕ) → Colours K sh g hd prim rep has stack Lt → Shapes K s sh prim hd → (0 < y) × (y ≤ sh .n) × K y → IsUnplaced (hd y)
-    → Colours K sh g (upd hd y (count (sh .len y))) prim rep (upd has y (λ j. false)) (push (sh .len y) y stack) Lt
-twin-colours {hd = hd} y c a m un = head-colours c (twin-ok y (hd y) c a m refl un)
 
 pub places : {K : ℕ → Type 0} {p s : ℕ} (o : State) (t : ℕ) (q : Primary) (th : Then) → Inv K p s o → t < p → o .tasks t .place ≡ Placing q th
     → Inv K p s (moves (twins o (q .0) (o .shape .len (q .0))) t (goes (o .tasks t) (goOn th (replica (q .0)))))

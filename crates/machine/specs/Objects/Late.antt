@@ -35,6 +35,3 @@ late-before ts t e x j f (u, a, b) = let r = some-before (LateOf x j) ts t e f (
 
 pub meeting-after : (ts : ℕ → Task) (t : ℕ) (e : Task) (x j : ℕ) → (MeetingOf x j (ts t) → MeetingOf x j e) → Meeting ts x j → Meeting (upd ts t e) x j
 meeting-after ts t e x j f (u, a, b) = let r = some-after (MeetingOf x j) ts t e f (u, (a, b)) in (r .0, r .1 .0, r .1 .1)
-
-pub meeting-before : (ts : ℕ → Task) (t : ℕ) (e : Task) (x j : ℕ) → (MeetingOf x j e → MeetingOf x j (ts t)) → Meeting (upd ts t e) x j → Meeting ts x j
-meeting-before ts t e x j f (u, a, b) = let r = some-before (MeetingOf x j) ts t e f (u, (a, b)) in (r .0, r .1 .0, r .1 .1)

@@ -1,8 +1,7 @@
 -- The switch-over by objects: it keeps the invariant, and every replica is then the same as its primary.
-use Prim.Native.Nat.{ℕ, _≤_, _<_}
+use Prim.Native.Nat.{ℕ}
 use mathlib.Core.Path.{_≡_, refl}
-use mathlib.Core.Logic.{_⊎_, inl, inr}
-use mathlib.Core.Bool.{true, false}
+use mathlib.Core.Bool.{false}
 use native.Mathlib.Omega.{arith}
 use Rattle.table.specs.declared.Pending.{Pending}
 use Rattle.table.specs.declared.Pending.the-variants.{Nothing, Making}
@@ -11,7 +10,7 @@ use Rattle.table.specs.declared.Storing.the-variants.{Nowhere, Slot}
 use Rattle.table.specs.declared.Place.the-variants.{Idle}
 use Rattle.machine.specs.Objects.Base.{clash, off-on, upd, upd-same, upd-other, upd-all}
 use Rattle.machine.specs.Objects.State.{Hd, white, claimed, count, locked, State, Late}
-use Rattle.machine.specs.Objects.Inv.{Colours, PendingOk, StoringOk, Inv}
+use Rattle.machine.specs.Objects.Inv.{PendingOk, StoringOk, Inv}
 use Rattle.machine.specs.Objects.Ops.{switches}
 
 -- no Store is late where all are idle
@@ -73,20 +72,3 @@ switch-inv {K} {p} {s} {o} v idle = record {
         (λ x q e. let z : _≡_ {A = ℕ} 0 1 = cc in clash z)
 
 -- ---- nothing left to copy, and all idle: every filled slot is in the replica, the same as in the primary
-pub all-copied : {K : ℕ → Type 0} {p s : ℕ} {o : State} → Inv K p s o → o .on ≡ true → ((t : ℕ) → o .tasks t .place ≡ Idle)
-    → ((x : ℕ) → K x → x ≤ o .shape .n → o .hd x ≡ count 0) → (x j : ℕ) → K x → x ≤ o .shape .n → j < o .shape .fill x → o .rep x j ≡ o .prim x j
-all-copied {K} {p} {s} {o} v on idle placed x j k l m = go (c .copied x j (rw (placed x k l) tt) (rw (placed x k l) (omega arith)) m)
-  where
-    c : Colours K (o .shape) (o .snap) (o .hd) (o .prim) (o .rep) (o .has) (o .stack) (Late (o .tasks))
-    c = rw on at (v .mode)
-
-    go : (o .rep x j ≡ o .prim x j) ⊎ Late (o .tasks) x j → o .rep x j ≡ o .prim x j
-    go (inl e) = e
-    go (inr t) = absurd (not-late o idle x j t)
-
-pub all-written : {K : ℕ → Type 0} {p s : ℕ} {o : State} → Inv K p s o → o .on ≡ true
-    → ((x : ℕ) → K x → x ≤ o .shape .n → o .hd x ≡ count 0) → (x j : ℕ) → K x → x ≤ o .shape .n → j < o .shape .fill x → o .has x j ≡ true
-all-written {K} {p} {s} {o} v on placed x j k l m = c .written x j (rw (placed x k l) tt) (rw (placed x k l) (omega arith)) m
-  where
-    c : Colours K (o .shape) (o .snap) (o .hd) (o .prim) (o .rep) (o .has) (o .stack) (Late (o .tasks))
-    c = rw on at (v .mode)

@@ -34,5 +34,5 @@ pub mod Live
 pub mod History
 pub mod Beside
 pub mod Promises
-pub mod RoomRuns
 pub mod PromisesRun
+pub mod RoomRuns

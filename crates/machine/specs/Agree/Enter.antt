@@ -29,6 +29,7 @@ use Rattle.machine.specs.Objects.Ops.{state, goes, goesWith, moves}
 use Rattle.machine.specs.Agree.Encode.{atPrimary, atPending, atPlace, atTask}
 use Rattle.machine.specs.Agree.Mem.{Holds}
 use Rattle.machine.specs.Agree.Agree.{addr, Ok, content, Lay, bottom, end, Agree}
+use Rattle.machine.specs.Agree.MidwayRead.{space-low, space-high}
 
 abbrev pub entered : Table → Marks → ℕ → Task → Table
 entered t m i e = table (t .limits) (t .upper) (t .on) m (t .life) (t .roots) (set (t .tasks) i e)
@@ -68,9 +69,8 @@ entered-ended pa ra o t i m (Making x r len f) e = rw e (on (eqb f len))
 
 -- ---- limits of the spaces
 pub bounds : (upper : Bool) (h : ℕ) → (2 ≤ bottomOf upper h) × (endOf upper h ≡ bottomOf upper h + h) × (endOf upper h ≤ 2 + 2 * h)
-unfolding bottomOf endOf
-bounds true h = (omega arith, refl, omega arith)
-bounds false h = (omega arith, refl, omega arith)
+unfolding endOf
+bounds upper h = (space-low upper h, refl, space-high upper h)
 
 -- ---- jobs
 abbrev pub jobs : (ℕ → Task) → ℕ → ℕ

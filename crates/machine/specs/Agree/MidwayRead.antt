@@ -25,13 +25,13 @@ foundBy r len (claimed t) = Claimed
 foundBy r len (count c) = Forwarded (replica r) len
 foundBy r len (locked i t) = Forwarded (replica r) len
 
-whole : (n s p len m : ℕ) → len ≤ s → m ≤ len → s ≤ 255 → p + len ≤ n → objectBy n s p (descriptor len m) ≡ Whole len m
+pub whole : (n s p len m : ℕ) → len ≤ s → m ≤ len → s ≤ 255 → p + len ≤ n → objectBy n s p (descriptor len m) ≡ Whole len m
 whole n s p len m a b c d =
     let l : lengthIn (descriptor len m) ≡ len = omega arith in
     let q : pointersIn (descriptor len m) ≡ m = omega arith in
     rw (l, q, le-ltb s len a, le-ltb len m b, le-ltb (n - p) len (omega arith)) refl
 
-forwarded : (n len h : ℕ) → 4 ≤ h → h + len ≤ n → headerOf n len h ≡ Forwarded (replica h) len
+pub forwarded : (n len h : ℕ) → 4 ≤ h → h + len ≤ n → headerOf n len h ≡ Forwarded (replica h) len
 forwarded n len h a b =
     rw (ne-eqb h 0 (λ e. omega arith), ne-eqb h 1 (λ e. omega arith), le-ltb h 4 a, le-ltb n h (omega arith), le-ltb (n - h) len (omega arith)) refl
 

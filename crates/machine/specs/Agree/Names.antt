@@ -11,7 +11,7 @@ use Rattle.table.specs.declared.Table.{Table}
 use Rattle.machine.specs.Objects.State.{Hd, Shape, State, IsPlaced}
 use Rattle.machine.specs.Objects.Inv.{Sound}
 use Rattle.machine.specs.Agree.Agree.{Held, Beside, Lay, end, Agree}
-use Rattle.machine.specs.Agree.Spaces.{bottom-low}
+use Rattle.machine.specs.Agree.MidwayRead.{space-low}
 
 -- a kept object that is not nil has words
 pub held-of : (K : ℕ → Type 0) (sh : Shape) (x : ℕ) → x ≢ 0 → K x → x ≤ sh .n → Held K sh x
@@ -64,4 +64,4 @@ pa-four k x h = k .lay .inside x h .0
 
 pub ra-four : {K : ℕ → Type 0} {pa ra : ℕ → ℕ} {o : State} {t : Table} {ws : List ℕ} → Agree K pa ra o t ws
     → (x : ℕ) → Held K (o .shape) x → IsPlaced (o .hd x) → 4 ≤ ra x
-ra-four {K} {pa} {ra} {o} {t} {ws} k x h i = omega (arith, bottom-low (t .upper) (t .limits .h), k .lay .where-r x h i)
+ra-four {K} {pa} {ra} {o} {t} {ws} k x h i = omega (arith, space-low (t .upper) (t .limits .h), k .lay .where-r x h i)

@@ -22,7 +22,7 @@ use Rattle.table.specs.declared.Table.{Table}
 use Rattle.table.specs.declared.Deed.the-variants.{Goes, Fails}
 use Rattle.machine.specs.Numbers.{refusal}
 use Rattle.machine.specs.Words.{primary, replica, roomOf, roomFor}
-use Rattle.machine.specs.Entries.{entry, table, noTask, taskAt, movedTable}
+use Rattle.machine.specs.Entries.{entry, noTask, taskAt, movedTable}
 use Rattle.machine.specs.Tasks.{holdingOf}
 use Rattle.machine.specs.Deeds.{Acted, acted}
 use Rattle.machine.specs.Look.{goOn, placeOf, placedThen, placeStepOf}
@@ -34,6 +34,7 @@ use Rattle.machine.specs.Agree.Encode.{atThen, atCopied, atPlace, atTask
 use Rattle.machine.specs.Agree.Agree.{Held, bottom, end, Agree}
 use Rattle.machine.specs.Agree.Midway.{Midway, twinNeed, twinMarks, twinWords, no-room, twin-length}
 use Rattle.machine.specs.Agree.MidwayRead.{object-in, midway-of}
+use Rattle.machine.specs.Agree.Enter.{entered}
 use Rattle.machine.specs.Agree.Twin.{twin}
 
 -- ---- an entry names replicas of placed objects only
@@ -65,23 +66,21 @@ task-same {K} {p} {s} {o} pa ra ra′ v h i =
     rw (place-same K s (o .shape) (o .hd) (o .prim) (o .rep) (o .has) (Meeting (o .tasks)) (o .on) i (o .tasks i) (o .tasks i .place) pa ra ra′ (v .places i) h)
 
 -- ---- what follows the place
-abbrev pub entered : Table → Marks → ℕ → Task → Table
-entered t m i e = table (t .limits) (t .upper) (t .on) m (t .life) (t .roots) (set (t .tasks) i e)
-
 -- the task goes on to the place where x has its replica
 abbrev pub placedEntry : Task → Then → ℕ → Task
 placedEntry e th x = goes e (goOn th (replica x))
 
-at-goOn : (pa ra : ℕ → ℕ) (th : Then) (x : ℕ) → atPlace pa ra (goOn th (replica x)) ≡ goOn (atThen pa th) (replica (ra x))
-at-goOn pa ra (ToWrite v) x = refl
-at-goOn pa ra ToStoreCopy x = refl
-at-goOn pa ra ToFillCopy x = refl
-at-goOn pa ra (ToPut n y i) x = refl
+-- what follows a look
+pub at-on : (pa ra : ℕ → ℕ) (th : Then) (x : ℕ) → goOn (atThen pa th) (replica (ra x)) ≡ atPlace pa ra (goOn th (replica x))
+at-on pa ra (ToWrite v) x = refl
+at-on pa ra ToStoreCopy x = refl
+at-on pa ra ToFillCopy x = refl
+at-on pa ra (ToPut n y i) x = refl
 
 -- the entry as the machine makes it
 pub placed-entry : (pa ra ra′ : ℕ → ℕ) (e f : Task) (th : Then) (x : ℕ) → f ≡ atTask pa ra e
     → entry (f .regs) (f .pending) (f .storing) (goOn (atThen pa th) (replica (ra′ x))) ≡ atTask pa ra′ (placedEntry e th x)
-placed-entry pa ra ra′ e f th x q = rw (q, at-goOn pa ra′ th x)
+placed-entry pa ra ra′ e f th x q = rw (q, at-on pa ra′ th x)
 
 -- a job in hand stays, and there is none more
 same-jobs : (q : Primary) (th : Then) (x : ℕ) → jobsIn (holdingOf (Placing q th)) ≡ jobsIn (holdingOf (goOn th (replica x)))

@@ -5,28 +5,21 @@ use mathlib.Core.List.{List, [], _∷_}
 use mathlib.Core.Bool.{true}
 use native.Mathlib.Omega.{arith}
 use lib.ListN.{length, getD}
-use borrow.Author.Tests.{le-ltb, lt-ltb, le-leb, lt-leb, ne-eqb}
+use borrow.Author.Tests.{le-ltb, lt-ltb, le-leb, lt-leb}
 use Rattle.table.specs.declared.Table.{Table}
 use Rattle.table.specs.declared.Object.the-variants.{Whole}
-use Rattle.table.specs.declared.Look.{Look}
-use Rattle.table.specs.declared.Look.the-variants.{White, Claimed, Forwarded}
+use Rattle.table.specs.declared.Look.the-variants.{Forwarded}
 use Rattle.table.specs.declared.Copying.{Copying}
 use Rattle.table.specs.declared.Copying.the-variants.{Count, Locked, Neither}
-use Rattle.machine.specs.Words.{primary, replica, descriptor, lengthIn, pointersIn, objectBy, objectOf, headerOf, lookOf, copyingOf}
+use Rattle.machine.specs.Words.{primary, replica, descriptor, lengthIn, objectOf, headerOf, lookOf, copyingOf}
 use Rattle.machine.specs.Objects.State.{Hd, white, claimed, count, locked, State, IsPlaced, left, Late}
 use Rattle.machine.specs.Objects.Inv.{Colours, Inv}
 use Rattle.machine.specs.Agree.Encode.{headerWord, copyWord, slotWord}
 use Rattle.machine.specs.Agree.Mem.{P, R, S}
 use Rattle.machine.specs.Agree.Agree.{Held, end, Agree}
+use Rattle.machine.specs.Agree.MidwayRead.{foundBy, whole, forwarded}
 use Rattle.machine.specs.Agree.Spaces.{end-inside, top-high, a-high}
 use Rattle.machine.specs.Agree.Names.{pa-four, ra-four}
-
--- what a look finds, and what a replica's header says, by the object's header
-abbrev pub lookIs : ℕ → ℕ → Hd → Look
-lookIs r len white = White len
-lookIs r len (claimed t) = Claimed
-lookIs r len (count c) = Forwarded (replica r) len
-lookIs r len (locked i t) = Forwarded (replica r) len
 
 abbrev pub copyingIs : Hd → Copying
 copyingIs white = Neither
@@ -38,17 +31,6 @@ copyingIs (locked i t) = Locked i
 -- both read off a descriptor
 pub length-in : (len m : ℕ) → m ≤ 255 → lengthIn (descriptor len m) ≡ len
 length-in len m l = omega arith
-
-pub pointers-in : (len m : ℕ) → m ≤ 255 → pointersIn (descriptor len m) ≡ m
-pointers-in len m l = omega arith
-
-pub whole : (n s p len m : ℕ) → len ≤ s → m ≤ len → s ≤ 255 → p + len ≤ n → objectBy n s p (descriptor len m) ≡ Whole len m
-whole n s p len m a b c d =
-    rw (length-in len m (omega arith), pointers-in len m (omega arith), le-ltb s len a, le-ltb len m b, le-ltb (n - p) len (omega arith)) refl
-
-forwarded : (n len h : ℕ) → 4 ≤ h → h + len ≤ n → headerOf n len h ≡ Forwarded (replica h) len
-forwarded n len h a b =
-    rw (ne-eqb h 0 (λ e. omega arith), ne-eqb h 1 (λ e. omega arith), le-ltb h 4 a, le-ltb n h (omega arith), le-ltb (n - h) len (omega arith)) refl
 
 counted : (len c : ℕ) → c ≤ len → copyingOf len c ≡ Count c
 unfolding copyingOf
@@ -97,9 +79,6 @@ module _ {K : ℕ → Type 0} {pa ra : ℕ → ℕ} {o : State} {t : Table} {ws 
       ap (λ i. getD ws i 0) e ∙ k .mem (R x 1) (h, i, tt) (λ i. i)
 
   -- ---- where writes go: headers and slots lie inside the buffer
-  pub header-in : (x : ℕ) → Held K (o .shape) x → pa x - 1 < length ws
-  header-in x h = omega (arith, k .lay .inside x h)
-
   pub twin-inside : (x : ℕ) → Held K (o .shape) x → IsPlaced (o .hd x) → ra x + o .shape .len x ≤ length ws
   twin-inside x h i = omega (arith, k .lay .where-r x h i, a-high k, top-high k, end-inside k)
 
@@ -130,13 +109,13 @@ module _ {K : ℕ → Type 0} {p : ℕ} {pa ra : ℕ → ℕ} {o : State} {t : T
   twin-of x h i = forwarded (length ws) (o .shape .len x) (ra x) (ra-four k x h i) (twin-inside k x h i)
 
   header-of : (x : ℕ) → Held K (o .shape) x → (d : Hd) → o .hd x ≡ d
-      → headerOf (length ws) (o .shape .len x) (headerWord (ra x) d) ≡ lookIs (ra x) (o .shape .len x) d
+      → headerOf (length ws) (o .shape .len x) (headerWord (ra x) d) ≡ foundBy (ra x) (o .shape .len x) d
   header-of x h white e = refl
   header-of x h (claimed u) e = refl
   header-of x h (count c) e = twin-of x h (rw e tt)
   header-of x h (locked j u) e = twin-of x h (rw e tt)
 
-  pub look-of : (x : ℕ) → Held K (o .shape) x → lookOf ws (t .limits .s) (primary (pa x)) ≡ lookIs (ra x) (o .shape .len x) (o .hd x)
+  pub look-of : (x : ℕ) → Held K (o .shape) x → lookOf ws (t .limits .s) (primary (pa x)) ≡ foundBy (ra x) (o .shape .len x) (o .hd x)
   unfolding lookOf
   look-of x h = rw (object-of x h, header-word k x h) (header-of x h (o .hd x) refl)
 

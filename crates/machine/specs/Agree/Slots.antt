@@ -6,35 +6,20 @@ use mathlib.Core.List.{List, [], _∷_}
 use mathlib.Core.Bool.{true}
 use native.Mathlib.Omega.{arith}
 use lib.ListN.{length, getD, set, length-set}
-use lib.Dec.{ltb}
-use Rattle.table.specs.declared.Operand.{Operand}
-use Rattle.table.specs.declared.Operand.the-variants.{Plain, Pointer}
-use Rattle.table.specs.declared.Copied.{Copied}
-use Rattle.table.specs.declared.Copied.the-variants.{Same, Renamed}
 use Rattle.table.specs.declared.Task.{Task}
 use Rattle.table.specs.declared.Table.{Table}
-use Rattle.machine.specs.Words.{operandWord, copiedWord}
 use Rattle.machine.specs.Tasks.{holdingOf}
-use Rattle.machine.specs.Begin.{isPointer}
 use Rattle.machine.specs.Objects.Base.{upd, upd-same, upd-all, slot, slot-same, slot-other}
-use Rattle.machine.specs.Objects.State.{Shape, State, IsPlaced, isRenamed, jobsIn}
+use Rattle.machine.specs.Objects.State.{Shape, State, IsPlaced, jobsIn}
 use Rattle.machine.specs.Objects.Inv.{Inv}
 use Rattle.machine.specs.Objects.Ops.{state, shapeOf, copies, stores, halfFills, fillsCopy, fillsOff}
-use Rattle.machine.specs.Agree.Encode.{atOperand, atCopied, atTask, slotWord}
+use Rattle.machine.specs.Agree.Encode.{atTask, slotWord}
 use Rattle.machine.specs.Agree.Mem.{Loc, P, R, S, InLocs, write}
 use Rattle.machine.specs.Agree.Agree.{Held, addr, Ok, content, Lay, bottom, end, Agree}
 use Rattle.machine.specs.Agree.Apart.{apart}
 use Rattle.machine.specs.Agree.Enter.{entered, bounds, enter}
 
 -- ---- the word that a step writes is the slot's word
-pub operand-word : (pa : ℕ → ℕ) (m j : ℕ) (n : Operand) → isPointer n ≡ ltb j m → operandWord (atOperand pa n) ≡ slotWord pa m j (operandWord n)
-operand-word pa m j (Plain w) q = rw (← q)
-operand-word pa m j (Pointer x) q = rw (← q)
-
-pub copied-word : (ra : ℕ → ℕ) (m j : ℕ) (n : Copied) → isRenamed n ≡ ltb j m → copiedWord (atCopied ra n) ≡ slotWord ra m j (copiedWord n)
-copied-word ra m j (Same w) q = rw (← q)
-copied-word ra m j (Renamed x) q = rw (← q)
-
 -- the shape with other slots filled and written
 abbrev refilled : Shape → (ℕ → ℕ) → (ℕ → ℕ) → Shape
 refilled sh fill wrote = shapeOf (sh .n) (sh .len) (sh .ptr) fill wrote

@@ -22,7 +22,7 @@ use Rattle.machine.specs.Words.{primary, lookOf}
 use Rattle.machine.specs.Entries.{noTask, nil, out}
 use Rattle.machine.specs.Switch.{replicaIn, newName, isForwarded, hasReplica, newPending, pendingHasReplica, newEntry, entryHasReplicas, switched, switchOf}
 use Rattle.machine.specs.Objects.Base.{off-on, upd, upd-other}
-use Rattle.machine.specs.Objects.State.{Hd, white, count, Shape, State, IsPlaced, left, root, Late, LateAt, Meeting}
+use Rattle.machine.specs.Objects.State.{Hd, white, count, Shape, State, IsPlaced, left, root, Late, Meeting}
 use Rattle.machine.specs.Objects.Inv.{Sound, Colours, PendingOk, PlaceOk, Inv}
 use Rattle.machine.specs.Objects.Ops.{switches}
 use Rattle.machine.specs.Agree.Encode.{atPrimary, atPending, atTask}
@@ -32,6 +32,7 @@ use Rattle.machine.specs.Agree.Midway.{Midway}
 use Rattle.machine.specs.Agree.MidwayRead.{space-low, look-in, midway-of}
 use Rattle.machine.specs.Agree.Home.{Home}
 use Rattle.machine.specs.Agree.Rows.{all-take, first-map, length-first, getD-first, getD-behind}
+use Rattle.machine.specs.Objects.SwitchInv.{not-late}
 
 module _ {K : ℕ → Type 0} {pa ra : ℕ → ℕ} {o : State} {t : Table} {ws : List ℕ} (v : Inv K (t .limits .p) (t .limits .s) o) (k : Agree K pa ra o t ws)
     (on : o .on ≡ true) (idle : (i : ℕ) → o .tasks i .place ≡ Idle) (done : (x : ℕ) → K x → x ≤ o .shape .n → o .hd x ≡ count 0) (empty : o .stack ≡ []) where
@@ -144,9 +145,6 @@ module _ {K : ℕ → Type 0} {pa ra : ℕ → ℕ} {o : State} {t : Table} {ws 
     apart-pr = λ x y h g p. absurd (unplaced-now y (g .0) p);
   }
 
-  not-late : (x j : ℕ) → Late (o .tasks) x j → ⊥
-  not-late x j w = subst LateAt (idle (w .0)) (w .2)
-
   -- a filled slot was copied
   copied : (x j : ℕ) → Held K sh x → j < sh .fill x → (o .has x j ≡ true) × (o .rep x j ≡ o .prim x j)
   copied x j h l =
@@ -155,7 +153,7 @@ module _ {K : ℕ → Type 0} {pa ra : ℕ → ℕ} {o : State} {t : Table} {ws 
     where
       same : (o .rep x j ≡ o .prim x j) ⊎ Late (o .tasks) x j → o .rep x j ≡ o .prim x j
       same (inl e) = e
-      same (inr w) = absurd (not-late x j w)
+      same (inr w) = absurd (not-late o idle x j w)
 
   mem′ : Holds (addr ra ra) (Ok K sh′ hd′ (o .has) (t .marks .top) (end t)) (content sh′ ra ra hd′ (o .prim) (o .rep) [] (t .marks .top)) [] ws
   mem′ (P x zero) u q = k .mem (R x 0) (u .0, placed x (u .0), tt) (λ i. i)

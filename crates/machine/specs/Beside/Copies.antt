@@ -1,4 +1,4 @@
--- The steps of a copy in hand: read, put, release.
+-- The steps of a copy in hand: read, put.
 use Prim.Native.Nat.{ℕ, _+_, _<_}
 use mathlib.Core.Path.{_≡_, refl, ap}
 use mathlib.Core.List.{List}

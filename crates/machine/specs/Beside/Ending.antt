@@ -2,23 +2,18 @@
 use Prim.Native.Nat.{ℕ, _<_}
 use mathlib.Core.Path.{_≡_, refl, ap, sym, _∙_}
 use mathlib.Core.List.{List, [], _∷_}
-use mathlib.Core.Bool.{Bool, true, false}
+use mathlib.Core.Bool.{Bool, true}
 use native.Mathlib.Omega.{arith}
-use lib.Dec.{eqb}
-use lib.ListN.{set}
 use Rattle.table.specs.declared.Limits.{Limits}
 use Rattle.table.specs.declared.Primary.{Primary}
 use Rattle.table.specs.declared.Marks.{Marks}
 use Rattle.table.specs.declared.Pending.{Pending}
 use Rattle.table.specs.declared.Pending.the-variants.{Nothing, Making}
-use Rattle.table.specs.declared.Storing.the-variants.{Nowhere}
 use Rattle.table.specs.declared.Place.{Place}
-use Rattle.table.specs.declared.Place.the-variants.{Idle}
 use Rattle.table.specs.declared.Table.{Table}
 use Rattle.table.specs.declared.Answer.{Answer}
 use Rattle.machine.specs.History.{History, withCopy, withCopies}
-use Rattle.machine.specs.Basics.{pick}
-use Rattle.machine.specs.Entries.{entry, taskAt}
+use Rattle.machine.specs.Entries.{taskAt}
 use Rattle.machine.specs.Tasks.{holdingOf}
 use Rattle.machine.specs.Switch.{endedEntry, endedTable, finishOf}
 use Rattle.machine.specs.StillStore.{Store, Ended, ownerAt, thingAt, withOwner, endsOwner, happenAll}
@@ -35,19 +30,12 @@ use Rattle.machine.specs.Beside.Collecting.{Collecting}
 use Rattle.machine.specs.Beside.Good.{Good, Fine, Comes}
 use Rattle.machine.specs.Beside.Glue.{below, entry-of}
 use Rattle.machine.specs.Beside.Finish.{finishes}
-
-pub ended-idle : (regs : List Primary) (d : Pending) → endedEntry regs d .place ≡ Idle
-ended-idle regs Nothing = refl
-ended-idle regs (Making x r len f) = on (eqb f len)
-  where
-    on : (b : Bool) → pick b (entry (set regs r x) Nothing Nowhere Idle) (entry regs (Making x r len f) Nowhere Idle) .place ≡ Idle
-    on true = refl
-    on false = refl
+use Rattle.machine.specs.Beside.StepChanges.{ended-place}
 
 -- an idle task has no job
 pub ended-jobs : (regs : List Primary) (d : Pending) → jobsIn (holdingOf (endedEntry regs d .place)) ≡ 0
 unfolding holdingOf
-ended-jobs regs d = rw (ended-idle regs d) refl
+ended-jobs regs d = rw (ended-place regs d) refl
 
 pub filling : (K : ℕ → Type 0) (sh : Shape) (hd : ℕ → Hd) (on : Bool) (d : Pending) → PendingOk K sh hd on d → Filling sh d
 filling K sh hd on Nothing o = tt

@@ -11,7 +11,6 @@ use Rattle.table.specs.declared.Operand.the-variants.{Plain, Pointer}
 use Rattle.table.specs.declared.Copied.{Copied}
 use Rattle.table.specs.declared.Copied.the-variants.{Same, Renamed}
 use Rattle.table.specs.declared.Then.{Then}
-use Rattle.table.specs.declared.Then.the-variants.{ToWrite, ToStoreCopy, ToFillCopy, ToPut}
 use Rattle.table.specs.declared.Place.{Place}
 use Rattle.table.specs.declared.Place.the-variants.{Looking}
 use Rattle.table.specs.declared.Table.{Table}
@@ -21,7 +20,7 @@ use Rattle.table.specs.declared.Look.the-variants.{Forwarded}
 use Rattle.machine.specs.Words.{primary, replica, operandWord, copiedWord, lookOf}
 use Rattle.machine.specs.Entries.{taskAt, movedTable}
 use Rattle.machine.specs.Begin.{isPointer}
-use Rattle.machine.specs.Look.{goOn, lookAhead}
+use Rattle.machine.specs.Look.{lookAhead}
 use Rattle.machine.specs.StillStore.{Store, ownerAt, isResting}
 use Rattle.machine.specs.Objects.State.{Hd, white, claimed, count, locked, Shape, State, IsPlaced, isRenamed}
 use Rattle.machine.specs.Objects.Inv.{Inv, SoundOperand}
@@ -29,7 +28,8 @@ use Rattle.machine.specs.Objects.Ops.{goes}
 use Rattle.machine.specs.Agree.Encode.{atOperand, atCopied, atThen, atPlace, atTask, slotWord}
 use Rattle.machine.specs.Agree.Agree.{Agree, Held, Lay}
 use Rattle.machine.specs.Agree.Names.{pa-zero}
-use Rattle.machine.specs.Agree.Read.{lookIs, look-of}
+use Rattle.machine.specs.Agree.MidwayRead.{foundBy}
+use Rattle.machine.specs.Agree.Read.{look-of}
 use Rattle.machine.specs.Agree.Enter.{entered}
 use Rattle.machine.specs.Agree.Complete.{task-in}
 use Rattle.machine.specs.Beside.Stands.{Stands}
@@ -45,13 +45,7 @@ pub copied-word : (ra : ℕ → ℕ) (c : Copied) (j m : ℕ) → isRenamed c �
 copied-word ra (Same w) j m e = rw (← e) refl
 copied-word ra (Renamed r) j m e = rw (← e) refl
 
--- what follows a look, and what follows a value that is known
-pub at-on : (pa ra : ℕ → ℕ) (th : Then) (x : ℕ) → goOn (atThen pa th) (replica (ra x)) ≡ atPlace pa ra (goOn th (replica x))
-at-on pa ra (ToWrite v) x = refl
-at-on pa ra ToStoreCopy x = refl
-at-on pa ra ToFillCopy x = refl
-at-on pa ra (ToPut n y i) x = refl
-
+-- what follows a value that is known
 pub at-ahead : {K : ℕ → Type 0} {sh : Shape} {hd : ℕ → Hd} {pa ra : ℕ → ℕ} {base a end size : ℕ} → Lay K sh hd pa ra base a end size
     → (v : Operand) → SoundOperand K sh v → (th : Then) (copy copy′ : Copied → Place) → ((c : Copied) → copy′ (atCopied ra c) ≡ atPlace pa ra (copy c))
     → lookAhead (atOperand pa v) (atThen pa th) copy′ ≡ atPlace pa ra (lookAhead v th copy)
@@ -71,7 +65,7 @@ pub look-placed : {K : ℕ → Type 0} {p : ℕ} {pa ra : ℕ → ℕ} {o : Stat
     → Held K (o .shape) x → IsPlaced (o .hd x) → lookOf ws (t .limits .s) (primary (pa x)) ≡ Forwarded (replica (ra x)) (o .shape .len x)
 look-placed {ra = ra} {o = o} v k x h d = look-of v k x h ∙ on (o .hd x) d
   where
-    on : (c : Hd) → IsPlaced c → lookIs (ra x) (o .shape .len x) c ≡ Forwarded (replica (ra x)) (o .shape .len x)
+    on : (c : Hd) → IsPlaced c → foundBy (ra x) (o .shape .len x) c ≡ Forwarded (replica (ra x)) (o .shape .len x)
     on white d = absurd d
     on (claimed u) d = absurd d
     on (count c) d = refl

@@ -35,9 +35,10 @@ use Rattle.machine.specs.Objects.HeadSteps.{look-claims, look-goes, plac
 use Rattle.machine.specs.Agree.Encode.{atPrimary, atThen, atPlace, atTask}
 use Rattle.machine.specs.Agree.Agree.{Agree, Held, end}
 use Rattle.machine.specs.Agree.Names.{sound-held}
-use Rattle.machine.specs.Agree.Read.{lookIs, look-of}
+use Rattle.machine.specs.Agree.MidwayRead.{foundBy}
+use Rattle.machine.specs.Agree.Read.{look-of}
 use Rattle.machine.specs.Agree.Enter.{entered, moves-agree}
-use Rattle.machine.specs.Agree.PlaceStep.{place-step, placed-moved}
+use Rattle.machine.specs.Agree.PlaceStep.{at-on, place-step, placed-moved}
 use Rattle.machine.specs.Agree.Midway.{twinNeed, twinMarks, twinWords}
 use Rattle.machine.specs.Agree.Heads.{claim-agree}
 use Rattle.machine.specs.Agree.Search.{claimer-found}
@@ -48,7 +49,7 @@ use Rattle.machine.specs.Objects.CountLaws.{counts-goes}
 use Rattle.machine.specs.Objects.CountHeads.{counts-claims, counts-places}
 use Rattle.machine.specs.Beside.Collects.{collects, not-idle, on-left, on-free}
 use Rattle.machine.specs.Beside.Good.{Good, Comes, comes-moved, comes-wait}
-use Rattle.machine.specs.Beside.Glue.{at-on, below, moved-goes}
+use Rattle.machine.specs.Beside.Glue.{below, moved-goes}
 
 doing-look : (e : Task) (d : Doing) (q : Primary) (th : Then) (pl : Place) → pl ≡ Looking q th → DoingAt e d pl → DoingThen e d (q .0) th
 doing-look e d q th pl pe h = rw pe at h
@@ -121,8 +122,8 @@ module _ {l : Limits} {w : Store} {hy : History} {t : Table} {ws : List ℕ} (g 
         on : (h : Hd) → g .objects .hd (q .0) ≡ h
             → Comes l w hy t ws i (atPlace (g .pa) (g .ra) (Looking q th)) X
             (settle t i
-            (ifForwarded (lookIs (g .ra (q .0)) (g .objects .shape .len (q .0)) h) (λ r len. acted (Goes (t .marks) (goOn (atThen (g .pa) th) r)) ws)
-            (unplacedCase (t .marks) ws (atPrimary (g .pa) q) (atThen (g .pa) th) (lookIs (g .ra (q .0)) (g .objects .shape .len (q .0)) h))))
+            (ifForwarded (foundBy (g .ra (q .0)) (g .objects .shape .len (q .0)) h) (λ r len. acted (Goes (t .marks) (goOn (atThen (g .pa) th) r)) ws)
+            (unplacedCase (t .marks) ws (atPrimary (g .pa) q) (atThen (g .pa) th) (foundBy (g .ra (q .0)) (g .objects .shape .len (q .0)) h))))
         on white e = claims e
         on (claimed u) e = waits u e
         on (count c) e = goes-on (rw e tt)

@@ -36,7 +36,8 @@ use Rattle.machine.specs.Objects.StoreSteps.{meets-white, meets-goes}
 use Rattle.machine.specs.Agree.Encode.{atPrimary, atOperand, atPlace}
 use Rattle.machine.specs.Agree.Agree.{Held}
 use Rattle.machine.specs.Agree.Names.{sound-held}
-use Rattle.machine.specs.Agree.Read.{lookIs, look-of, copying-of}
+use Rattle.machine.specs.Agree.Read.{look-of, copying-of}
+use Rattle.machine.specs.Agree.MidwayRead.{foundBy}
 use Rattle.machine.specs.Agree.Enter.{moves-agree}
 use Rattle.machine.specs.Agree.Search.{claimer-found, holder-found}
 use Rattle.machine.specs.Beside.Still.{DoingAt}
@@ -119,8 +120,8 @@ module _ {l : Limits} {w : Store} {hy : History} {t : Table} {ws : List ℕ} (g 
       on : (h : Hd) → g .objects .hd (x .0) ≡ h
           → Comes l w hy t ws i (atPlace (g .pa) (g .ra) (Meet v)) X
           (settle t i
-          (ifForwarded (lookIs (g .ra (x .0)) (g .objects .shape .len (x .0)) h) (meetIn (t .marks) ws (atPrimary (g .pa) x) j (atOperand (g .pa) v))
-          (acted (unmetCase (t .marks) (t .limits .k) (atPrimary (g .pa) x) (lookIs (g .ra (x .0)) (g .objects .shape .len (x .0)) h)) ws)))
+          (ifForwarded (foundBy (g .ra (x .0)) (g .objects .shape .len (x .0)) h) (meetIn (t .marks) ws (atPrimary (g .pa) x) j (atOperand (g .pa) v))
+          (acted (unmetCase (t .marks) (t .limits .k) (atPrimary (g .pa) x) (foundBy (g .ra (x .0)) (g .objects .shape .len (x .0)) h)) ws)))
       on white e = pays e
       on (claimed u) e = waits-claimer u e
       on (count c) e =

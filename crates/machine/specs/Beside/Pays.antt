@@ -1,4 +1,4 @@
--- The steps of a payment: take, read, put, release.
+-- The take of a payment: pop and lock; with nothing on the stack, end or wait.
 use Prim.Native.Nat.{ℕ, suc, _+_, _-_, _<_}
 use mathlib.Core.Path.{_≡_, refl}
 use mathlib.Core.Logic.{inl}

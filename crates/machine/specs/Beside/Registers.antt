@@ -29,8 +29,9 @@ use Rattle.machine.specs.Objects.BeginSteps.{register-inv, root-inv}
 use Rattle.machine.specs.Agree.Holdings.{atHolding, idle-only}
 use Rattle.machine.specs.Agree.Complete.{isIdle, task-in, move-of, clear-of, put-root-of, get-root-of, report-of, same-of}
 use Rattle.machine.specs.Agree.Regs.{register-agree, root-agree}
-use Rattle.machine.specs.Beside.Still.{DoingAt, StillTask}
-use Rattle.machine.specs.Beside.StillLaws.{still-owner, still-register, still-root, still-reroot, map-set}
+use Rattle.machine.specs.Agree.Enter.{map-set}
+use Rattle.machine.specs.Beside.Still.{number, DoingAt, StillTask}
+use Rattle.machine.specs.Beside.StillLaws.{still-owner, still-register, still-root, still-reroot}
 use Rattle.machine.specs.Objects.CountLaws.{counts-same}
 use Rattle.machine.specs.Beside.Awake.{due-same, due-roots}
 use Rattle.machine.specs.Beside.Collects.{collects}
@@ -77,7 +78,7 @@ module _ {l : Limits} {w : Store} {hy : History} {t : Table} {ws : List ℕ} (g 
     home = g .home;
     agree = register-agree (g .inv) (g .agree) task ip r x;
     still = still-owner (g .still) task (task-in (g .agree) task ip) e _ (record {
-      regs = rw (q .regs) (sym (map-set (g .objects .tasks task .regs) r x));
+      regs = rw (q .regs) (sym (map-set number (g .objects .tasks task .regs) r (primary x)));
       pending = q .pending;
       goesTo = q .goesTo;
       doing = rw pe (rests-at task ip pe);

@@ -1,8 +1,8 @@
 -- What keeps the store in step with the objects: an entry changes, and the store's task with it or not; objects made, filled, written.
-use Prim.Native.Nat.{ℕ, zero, suc, _-_, _≤_, _<_}
+use Prim.Native.Nat.{ℕ, _-_, _≤_, _<_}
 use mathlib.Core.Path.{_≡_, refl, ap, sym, _∙_}
 use mathlib.Core.Logic.{_≢_}
-use mathlib.Core.List.{List, [], _∷_, map}
+use mathlib.Core.List.{List, []}
 use native.Mathlib.Decide.{ℕ-discrete}
 use native.Mathlib.Omega.{arith}
 use lib.ListN.{getD, set, length-set, List·getD-map}
@@ -16,6 +16,7 @@ use Rattle.machine.specs.Objects.Base.{upd, upd-same, upd-other, slot, s
 use Rattle.machine.specs.Objects.State.{Shape, root}
 use Rattle.machine.specs.Objects.Ops.{wroteOne}
 use Rattle.machine.specs.Beside.Still.{number, StillTask, StillThing, Still}
+use Rattle.machine.specs.Agree.Enter.{map-set}
 
 -- ---- one task
 module _ {sh : Shape} {prim : ℕ → ℕ → ℕ} {ts : ℕ → Task} {roots : List Primary} {w : Store} (k : Still sh prim ts roots w) (t : ℕ) (l : t < 8) where
@@ -49,19 +50,13 @@ pub still-root : {sh : Shape} {prim : ℕ → ℕ → ℕ} {ts : ℕ → Task} {
     → getD (w .roots) r 0 ≡ root roots r
 still-root {roots = roots} k r = rw (k .shared) (List·getD-map number roots r nil)
 
--- a list of numbers changed where the list of pointers is
-pub map-set : (l : List Primary) (r x : ℕ) → map number (set l r (primary x)) ≡ set (map number l) r x
-map-set [] r x = refl
-map-set (p ∷ l) zero x = refl
-map-set (p ∷ l) (suc r) x = ap (λ (z : List ℕ). p .0 ∷ z) (map-set l r x)
-
 -- a shared root changes
 pub still-reroot : {sh : Shape} {prim : ℕ → ℕ → ℕ} {ts : ℕ → Task} {roots : List Primary} {w : Store} → Still sh prim ts roots w → (r x : ℕ)
     → Still sh prim ts (set roots r (primary x)) (store (w .owners) (set (w .roots) r x) (w .things))
 still-reroot {roots = roots} k r x = record {
   owners = k .owners;
   tasks = k .tasks;
-  shared = rw (k .shared) (sym (map-set roots r x));
+  shared = rw (k .shared) (sym (map-set number roots r (primary x)));
   things = k .things;
   each = k .each;
 }

@@ -24,8 +24,9 @@ use Rattle.machine.specs.StillStore.{Store, Owner, resting, making, owne
 use Rattle.machine.specs.Objects.Base.{upd, upd-same, upd-other}
 use Rattle.machine.specs.Objects.State.{Shape, pendingIs}
 use Rattle.machine.specs.Objects.Ops.{shapeOf, oneMore, goesWith}
+use Rattle.machine.specs.Agree.Enter.{map-set}
 use Rattle.machine.specs.Beside.Still.{number, GoesTo, DoingAt, StillTask, StillThing, Still}
-use Rattle.machine.specs.Beside.StillLaws.{still-owner, still-thing, map-set}
+use Rattle.machine.specs.Beside.StillLaws.{still-owner, still-thing}
 
 -- the next slot of x filled with v, which stands there
 pub still-filled : {sh : Shape} {prim : ℕ → ℕ → ℕ} {ts : ℕ → Task} {roots : List Primary} {w : Store} (prim′ : ℕ → ℕ → ℕ) (wrote : ℕ → ℕ)
@@ -132,5 +133,5 @@ still-ended {sh} {prim} {ts} {roots} {w} k t l regs d a b g h = still-owner k t 
             (endsOwner (ownerAt w t) (thingAt w (ownerAt w t .pending)))
         on true c =
             rw (some, full, c)
-            (record { regs = rw (a, g, b) (sym (map-set regs r (x .0))); pending = refl; goesTo = tt; doing = refl })
+            (record { regs = rw (a, g, b) (sym (map-set number regs r x)); pending = refl; goesTo = tt; doing = refl })
         on false c = rw (some, full, c) (record { regs = a; pending = b; goesTo = g; doing = refl })

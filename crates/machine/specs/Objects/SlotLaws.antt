@@ -14,6 +14,7 @@ use Rattle.machine.specs.Objects.Inv.{Sound, Shapes, Colours, EntryOk, P
 use Rattle.machine.specs.Objects.Ops.{state, goes, moves}
 use Rattle.machine.specs.Objects.Late.{late-after, late-before, meeting-after}
 use Rattle.machine.specs.Objects.Keep.{Keep, keep-entry, keep-place}
+use Rattle.machine.specs.Objects.MoveLaws.{late-colours}
 
 abbrev pub Elsewhere : ℕ → ℕ → ℕ → ℕ → Type 0
 Elsewhere x i a j = (a ≡ x) × (j ≡ i) → ⊥
@@ -81,35 +82,6 @@ slot-shapes {K} {s} {sh} {prim} {prim′} {hd} x i h other here = record {
       (λ a j q y m l d. rw (other a j q) (h .named a j y m l d));
 }
 
--- which Stores are late, told otherwise
-late-colours : {K : ℕ → Type 0} {sh : Shape} {g : Snapshot} {hd : ℕ → Hd} {prim rep : ℕ → ℕ → ℕ} {has : ℕ → ℕ → Bool} {stack : List ℕ} {Lt Lt′ : ℕ → ℕ → Type 0}
-    → ((a j : ℕ) → Lt a j → Lt′ a j) → ((a j : ℕ) → Lt′ a j → Lt a j) → Colours K sh g hd prim rep has stack Lt → Colours K sh g hd prim rep has stack Lt′
-late-colours {K} {sh} {g} {hd} {prim} {rep} {has} {stack} {Lt} {Lt′} f b c = record {
-  stacked = c .stacked;
-  once = c .once;
-  grey = c .grey;
-  bound = c .bound;
-  unplaced = c .unplaced;
-  older = c .older;
-  newer = c .newer;
-  written = c .written;
-  copied = λ x j p l m. same x j (c .copied x j p l m);
-  target = c .target;
-  saw = λ x j l m. still x j (c .saw x j l m);
-  roots = c .roots;
-  reached = c .reached;
-  known = c .known;
-}
-  where
-    same : (a j : ℕ) → (rep a j ≡ prim a j) ⊎ Lt a j → (rep a j ≡ prim a j) ⊎ Lt′ a j
-    same a j (inl e) = inl e
-    same a j (inr e) = inr (f a j e)
-
-    still : (a j : ℕ) → IsSeen (hd (g .slots a j)) ⊎ ((j < left (sh .len a) (hd a)) × (prim a j ≡ g .slots a j) × (Lt a j → ⊥))
-        → IsSeen (hd (g .slots a j)) ⊎ ((j < left (sh .len a) (hd a)) × (prim a j ≡ g .slots a j) × (Lt′ a j → ⊥))
-    still a j (inl e) = inl e
-    still a j (inr e) = inr (e .0, e .1, λ z. e .2 (b a j z))
-
 pub late-mode : {K : ℕ → Type 0} {p s : ℕ} {o : State} → Inv K p s o → (ts : ℕ → Task)
     → ((a j : ℕ) → Late (o .tasks) a j → Late ts a j) → ((a j : ℕ) → Late ts a j → Late (o .tasks) a j)
     → Mode (o .on) K (o .shape) (o .snap) (o .hd) (o .prim) (o .rep) (o .has) (o .stack) (Late ts)
@@ -117,7 +89,7 @@ late-mode {K} {p} {s} {o} v ts f b = by (o .on) (v .mode)
   where
     by : (on : Bool) → Mode on K (o .shape) (o .snap) (o .hd) (o .prim) (o .rep) (o .has) (o .stack) (Late (o .tasks))
         → Mode on K (o .shape) (o .snap) (o .hd) (o .prim) (o .rep) (o .has) (o .stack) (Late ts)
-    by true c = late-colours f b c
+    by true c = late-colours (λ x j a l m d. f x j) (λ x j l m d. b x j) c
     by false c = c
 
 -- ---- what other tasks keep

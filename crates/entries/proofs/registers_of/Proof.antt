@@ -1,9 +1,9 @@
--- Rests on the type of the field: it has eight registers.
+-- Rests on the array's type: eight registers.
 use mathlib.Core.Path.{refl}
 use borrow.Author.Needs.{needs}
-use Rattle.switch.proofs.Rows.{length-mapped}
-use Rattle.switch.proofs.registers_of.Statement.{statement}
-use Rattle.switch.proofs.registers_of.Tie as tie
+use Rattle.entries.proofs.Arrays.{length-mapped}
+use Rattle.entries.proofs.registers_of.Statement.{statement}
+use Rattle.entries.proofs.registers_of.Tie as tie
 
 returns : tie.Need-returns
 returns c = (refl, search (needs, length-mapped))

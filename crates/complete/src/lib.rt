@@ -1,6 +1,4 @@
-// The instructions that complete in the call: Move, Clear, to and from a shared root, Same.
-ghost use mathlib.Core.Path.{_≡_};
-ghost use Prim.Native.Nat.{ℕ, _<_};
+// The calls on registers that complete at once: Move, Clear, Same.
 ghost use Rattle.machine.specs.Entries.{ends};
 ghost use Rattle.machine.specs.Call.{Call};
 ghost use Rattle.machine.specs.Calls.{Meets};
@@ -8,140 +6,77 @@ use table::Answer;
 use table::Gate;
 use table::Outcome;
 use table::Primary;
-use table::Refusal;
 use table::Table;
 
 // Register `to` gets what register `from` holds.
 pub fn move_register(t: Table, words: &[u32], task: u32, to: u32, from: u32) -> Outcome
     ensures { λ r. ⌜ Meets (Call.Move task to from) t (now (words .entry)) (ends r (now (words .entry))) ⌝ }
 {
-    let l = t.limits;
-    let life = t.life;
-    let m = t.marks;
-    let g = gates::pair_gate(l, life, t.upper, m, words.len(), task, to, from);
+    let mut u = t;
+    let i = (task % 8) as usize;
+    let e = u.tasks[i];
+    let l = u.limits;
+    let life = u.life;
+    let m = u.marks;
+    let g = opening::turn_gate(l, life, u.upper, m, words.len(), task, to, from, e);
     if let Gate::Shut(x) = g {
-        return entries::refused(t, x);
+        return entries::refused(u, x);
     }
-    let i = task as usize;
-    let e = t.tasks[i];
-    let place = e.place;
-    let idle = tasks::idle(place);
-    if idle {
-        let p = e.regs[from as usize];
-        let u = entries::with_register(t, i, to as usize, p);
-        return Outcome {
-            table: u,
-            answer: Answer::Done,
-        };
+    let p = entries::register(e, from as usize);
+    let f = entries::with_register(e, to as usize, p);
+    u.tasks[i] = f;
+    Outcome {
+        table: u,
+        answer: Answer::Done,
     }
-    entries::refused(t, Refusal::OutOfTurn)
 }
 
 // A register becomes nil.
 pub fn clear_register(t: Table, words: &[u32], task: u32, r: u32) -> Outcome
     ensures { λ o. ⌜ Meets (Call.Clear task r) t (now (words .entry)) (ends o (now (words .entry))) ⌝ }
 {
-    let l = t.limits;
-    let life = t.life;
-    let m = t.marks;
-    let g = gates::pair_gate(l, life, t.upper, m, words.len(), task, r, r);
+    let mut u = t;
+    let i = (task % 8) as usize;
+    let e = u.tasks[i];
+    let l = u.limits;
+    let life = u.life;
+    let m = u.marks;
+    let g = opening::turn_gate(l, life, u.upper, m, words.len(), task, r, r, e);
     if let Gate::Shut(x) = g {
-        return entries::refused(t, x);
+        return entries::refused(u, x);
     }
-    let i = task as usize;
-    let e = t.tasks[i];
-    let place = e.place;
-    let idle = tasks::idle(place);
-    if idle {
-        let u = entries::with_register(t, i, r as usize, Primary(0));
-        return Outcome {
-            table: u,
-            answer: Answer::Done,
-        };
+    let f = entries::with_register(e, r as usize, Primary(0));
+    u.tasks[i] = f;
+    Outcome {
+        table: u,
+        answer: Answer::Done,
     }
-    entries::refused(t, Refusal::OutOfTurn)
-}
-
-// A shared root gets what a register holds.
-pub fn put_root(t: Table, words: &[u32], task: u32, root: u32, r: u32) -> Outcome
-    ensures { λ o. ⌜ Meets (Call.Put task root r) t (now (words .entry)) (ends o (now (words .entry))) ⌝ }
-{
-    let l = t.limits;
-    let life = t.life;
-    let m = t.marks;
-    let g = gates::pair_gate(l, life, t.upper, m, words.len(), task, root, r);
-    if let Gate::Shut(x) = g {
-        return entries::refused(t, x);
-    }
-    let i = task as usize;
-    let e = t.tasks[i];
-    let place = e.place;
-    let idle = tasks::idle(place);
-    if idle {
-        let p = e.regs[r as usize];
-        let u = entries::with_root(t, root as usize, p);
-        return Outcome {
-            table: u,
-            answer: Answer::Done,
-        };
-    }
-    entries::refused(t, Refusal::OutOfTurn)
-}
-
-// A register gets what a shared root holds.
-pub fn get_root(t: Table, words: &[u32], task: u32, r: u32, root: u32) -> Outcome
-    ensures { λ o. ⌜ Meets (Call.Get task r root) t (now (words .entry)) (ends o (now (words .entry))) ⌝ }
-{
-    let l = t.limits;
-    let life = t.life;
-    let m = t.marks;
-    let g = gates::pair_gate(l, life, t.upper, m, words.len(), task, r, root);
-    if let Gate::Shut(x) = g {
-        return entries::refused(t, x);
-    }
-    let i = task as usize;
-    let e = t.tasks[i];
-    let place = e.place;
-    let idle = tasks::idle(place);
-    if idle {
-        let p = t.roots[root as usize];
-        let u = entries::with_register(t, i, r as usize, p);
-        return Outcome {
-            table: u,
-            answer: Answer::Done,
-        };
-    }
-    entries::refused(t, Refusal::OutOfTurn)
 }
 
 // Are two registers the same object: 1, or 0.
 pub fn same(t: Table, words: &[u32], task: u32, a: u32, b: u32) -> Outcome
     ensures { λ r. ⌜ Meets (Call.Same task a b) t (now (words .entry)) (ends r (now (words .entry))) ⌝ }
 {
-    let l = t.limits;
-    let life = t.life;
-    let m = t.marks;
-    let g = gates::pair_gate(l, life, t.upper, m, words.len(), task, a, b);
+    let u = t;
+    let i = (task % 8) as usize;
+    let e = u.tasks[i];
+    let l = u.limits;
+    let life = u.life;
+    let m = u.marks;
+    let g = opening::turn_gate(l, life, u.upper, m, words.len(), task, a, b, e);
     if let Gate::Shut(x) = g {
-        return entries::refused(t, x);
+        return entries::refused(u, x);
     }
-    let i = task as usize;
-    let e = t.tasks[i];
-    let place = e.place;
-    let idle = tasks::idle(place);
-    if idle {
-        let p = e.regs[a as usize];
-        let q = e.regs[b as usize];
-        if p.0 == q.0 {
-            return Outcome {
-                table: t,
-                answer: Answer::Value(1),
-            };
-        }
+    let p = entries::register(e, a as usize);
+    let q = entries::register(e, b as usize);
+    if p.0 == q.0 {
         return Outcome {
-            table: t,
-            answer: Answer::Value(0),
+            table: u,
+            answer: Answer::Value(1),
         };
     }
-    entries::refused(t, Refusal::OutOfTurn)
+    Outcome {
+        table: u,
+        answer: Answer::Value(0),
+    }
 }

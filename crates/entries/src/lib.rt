@@ -1,7 +1,8 @@
-// Refusals, and tables with one part changed.
+// Refusals, the parts of an entry, and tables with one part changed.
 ghost use mathlib.Core.Path.{_≡_};
-ghost use Prim.Native.Nat.{ℕ, _<_};
-ghost use Rattle.machine.specs.Entries.{refused as refusedOf, out, withLife, withTask, withPlace, withRegister, withRoot, movedTable};
+ghost use Prim.Native.Nat.{_<_};
+ghost use lib.ListN.{length, set};
+ghost use Rattle.machine.specs.Entries.{refused as refusedOf, out, withLife, withPlace, movedTable, entry, register as registerOf};
 ghost use Rattle.table.specs.declared.Answer.the-variants.{No};
 use table::Answer;
 use table::Life;
@@ -51,36 +52,28 @@ pub fn refused(t: Table, x: Refusal) -> Outcome
     }
 }
 
-// One register of one task.
-pub fn with_register(t: Table, i: usize, r: usize, p: Primary) -> Table
-    requires { ⌜ (i < 8) × (r < 8) ⌝ }
-    ensures { λ u. ⌜ u ≡ withRegister t i r p ⌝ }
+// A task's registers. (That there are eight is told by the contract: a caller cannot see it of an element of an array.)
+pub fn registers_of(e: Task) -> [Primary; 8]
+    ensures { λ r. ⌜ (r ≡ e .regs) × (length r ≡ 8) ⌝ }
 {
-    let mut u = t;
-    let mut e = t.tasks[i];
-    e.regs[r] = p;
-    u.tasks[i] = e;
-    u
+    e.regs
 }
 
-// One shared root.
-pub fn with_root(t: Table, r: usize, p: Primary) -> Table
+// One register of a task's entry, and the entry with it set.
+pub fn register(e: Task, r: usize) -> Primary
     requires { ⌜ r < 8 ⌝ }
-    ensures { λ u. ⌜ u ≡ withRoot t r p ⌝ }
+    ensures { λ p. ⌜ p ≡ registerOf e r ⌝ }
 {
-    let mut u = t;
-    u.roots[r] = p;
-    u
+    e.regs[r]
 }
 
-// One entry.
-pub fn with_task(t: Table, i: usize, e: Task) -> Table
-    requires { ⌜ i < 8 ⌝ }
-    ensures { λ u. ⌜ u ≡ withTask t i e ⌝ }
+pub fn with_register(e: Task, r: usize, p: Primary) -> Task
+    requires { ⌜ r < 8 ⌝ }
+    ensures { λ f. ⌜ f ≡ entry (set (e .regs) r p) (e .pending) (e .storing) (e .place) ⌝ }
 {
-    let mut u = t;
-    u.tasks[i] = e;
-    u
+    let mut f = e;
+    f.regs[r] = p;
+    f
 }
 
 // One task at another place of its instruction.

@@ -1,15 +1,16 @@
 -- A pass of a flip that visits in order, and the first entries made new, seen from their loops.
-use Prim.Native.Nat.{ℕ, zero, suc, _+_, _<_, _≤_}
-use mathlib.Core.Path.{_≡_, refl, sym, ap, _∙_}
-use mathlib.Core.List.{List, [], _∷_, map}
+use Prim.Native.Nat.{ℕ, _+_, _<_, _≤_}
+use mathlib.Core.Path.{_≡_, refl, sym, _∙_}
+use mathlib.Core.List.{List}
 use native.Mathlib.Omega.{arith}
 use native.Mathlib.Numerals.{add-one}
-use lib.ListN.{length, length-map, getD, set, take, drop, drop-of-length-le}
+use lib.ListN.{length, getD, set, take, drop, drop-of-length-le}
 use lib.Seq.{drop-cons, length-take-le}
 use Rattle.table.specs.declared.Marks.{Marks}
 use Rattle.table.specs.declared.Refusal.{Refusal}
 use Rattle.table.specs.declared.Pass.{Pass}
 use Rattle.table.specs.declared.Pass.the-variants.{On, Stopped}
+use Rattle.entries.proofs.Arrays.{first-suc}
 use Rattle.machine.specs.Basics.{firstOf}
 use Rattle.machine.specs.Bounds.{Fits, Passes}
 use Rattle.machine.specs.Flip.{Went, went, next, passOf}
@@ -62,14 +63,6 @@ pub record Renewing {A : Type 0} (new : A → A) (xs : List A) (n : ℕ) (u : Li
   pub all : n ≤ length xs
   pub done : u ≡ firstOf i new xs
 
-first-suc :
-    {A : Type 0} (new : A → A) (d : A) (xs : List A) (i : ℕ) → i < length xs →
-    set (firstOf i new xs) i (new (getD xs i d)) ≡ firstOf (suc i) new xs
-unfolding firstOf
-first-suc new d [] i h = let z : _≡_ {A = ℕ} 0 1 = omega arith in absurd (omega arith)
-first-suc new d (x ∷ xs) zero h = refl
-first-suc new d (x ∷ xs) (suc i) h = ap (λ ys. new x ∷ ys) (first-suc new d xs i (omega arith))
-
 pub none-new : {A : Type 0} (new : A → A) (xs : List A) (n : ℕ) → n ≤ length xs → Renewing new xs n xs 0
 unfolding firstOf
 none-new new xs n l = record { low = omega arith; all = l; done = refl }
@@ -82,7 +75,3 @@ module _ {A : Type 0} {new : A → A} {xs : List A} {n : ℕ} {u : List A} {i : 
 
   pub all-new : n ≤ i → u ≡ firstOf n new xs
   all-new h = let e : i ≡ n = omega (arith, k .low) in rw e at (k .done)
-
--- the length of an array of structs
-pub length-mapped : (X Y : Type 0) (f : X → Y) (l : List X) (n : ℕ) → length (map f l) ≡ n → length l ≡ n
-length-mapped X Y f l n p = sym (length-map l f) ∙ p

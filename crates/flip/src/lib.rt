@@ -1,7 +1,7 @@
 // The flip, one step: the pending objects, then the roots, then the registers task by task.
 ghost use mathlib.Core.Path.{_≡_};
 ghost use mathlib.Core.Bool.{not};
-ghost use Prim.Native.Nat.{ℕ, _+_, _*_, _≤_, _<_};
+ghost use Prim.Native.Nat.{_+_, _*_, _≤_, _<_};
 ghost use lib.ListN.{length, take};
 ghost use Rattle.machine.specs.Basics.{firstOf};
 ghost use Rattle.machine.specs.Words.{endOf};
@@ -116,13 +116,6 @@ fn roots(m: Marks, words: &mut [u32], end: u32, s: u32, qs: [Primary; 8]) -> Pas
     }
 }
 
-// A task's registers. (That there are eight is told by the contract: a caller cannot see it of an element of an array.)
-fn registers_of(e: Task) -> [Primary; 8]
-    ensures { λ r. ⌜ (r ≡ e .regs) × (length r ≡ 8) ⌝ }
-{
-    e.regs
-}
-
 // The registers of the first p tasks: the loop over the tasks is left from inside, with the refusal.
 fn registers(m: Marks, words: &mut [u32], end: u32, s: u32, p: usize, tasks: [Task; 8]) -> Pass
     requires { ⌜ Fits m end (length (now words)) × (s ≤ 255) × (p ≤ 8) ⌝ }
@@ -135,7 +128,7 @@ fn registers(m: Marks, words: &mut [u32], end: u32, s: u32, p: usize, tasks: [Ta
             break Pass::On(g);
         }
         let e = tasks[i];
-        let regs = registers_of(e);
+        let regs = entries::registers_of(e);
         let mut r: usize = 0;
         while r < 8 {
             let q = regs[r];

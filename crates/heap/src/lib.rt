@@ -1,15 +1,15 @@
 // The heap's public calls, and the types they take and give.
-pub use begin::begin_fill;
-pub use begin::begin_fill_pointer;
-pub use begin::begin_new;
-pub use begin::begin_store;
-pub use begin::begin_store_pointer;
+pub use begin_fill::begin_fill;
+pub use begin_fill::begin_fill_pointer;
+pub use begin_new::begin_new;
+pub use begin_store::begin_store;
+pub use begin_store::begin_store_pointer;
 pub use complete::clear_register;
-pub use complete::get_root;
 pub use complete::move_register;
-pub use complete::put_root;
 pub use complete::same;
 pub use load::load;
+pub use roots::get_root;
+pub use roots::put_root;
 pub use setup::report;
 pub use setup::setup;
 pub use setup::unset;

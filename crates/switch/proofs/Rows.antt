@@ -1,15 +1,16 @@
 -- A row made new in place, seen from its loop: how it begins, goes on, stops and ends.
-use Prim.Native.Nat.{ℕ, zero, suc, _+_, _<_, _≤_}
-use mathlib.Core.Path.{_≡_, refl, sym, ap, _∙_}
-use mathlib.Core.List.{List, [], _∷_, map}
+use Prim.Native.Nat.{ℕ, _+_, _<_, _≤_}
+use mathlib.Core.Path.{_≡_, refl, sym, _∙_}
+use mathlib.Core.List.{List}
 use mathlib.Core.Bool.{Bool, true, false}
 use native.Mathlib.Omega.{arith}
 use native.Mathlib.Numerals.{add-one}
-use lib.ListN.{length, getD, set, take, drop, length-map, drop-of-length-le}
+use lib.ListN.{length, getD, set, take, drop, drop-of-length-le}
 use lib.Seq.{drop-cons, length-take-le, getD-take}
 use Rattle.table.specs.declared.Primary.{Primary}
 use Rattle.table.specs.declared.Pending.{Pending}
 use Rattle.table.specs.declared.Task.{Task}
+use Rattle.entries.proofs.Arrays.{first-suc}
 use Rattle.machine.specs.Basics.{pick, allOf, firstOf}
 use Rattle.machine.specs.Entries.{entry}
 use Rattle.machine.specs.Switch.{newName, hasReplica, newPending, pendingHasReplica, newEntry, entryHasReplicas}
@@ -24,13 +25,6 @@ pub record Changing {A : Type 0} (good : A → Bool) (new : A → A) (xs : List 
 pub begins : {A : Type 0} (good : A → Bool) (new : A → A) (xs : List A) (n : ℕ) → n ≤ length xs → Changing good new xs n xs 0
 unfolding firstOf
 begins good new xs n l = record { low = omega arith; all = l; so = refl; done = refl }
-
--- one more made new
-first-suc : {A : Type 0} (new : A → A) (d : A) (xs : List A) (i : ℕ) → i < length xs → set (firstOf i new xs) i (new (getD xs i d)) ≡ firstOf (suc i) new xs
-unfolding firstOf
-first-suc new d [] i h = absurd (omega arith)
-first-suc new d (x ∷ xs) zero h = refl
-first-suc new d (x ∷ xs) (suc i) h = ap (λ ys. new x ∷ ys) (first-suc new d xs i (omega arith))
 
 module _ {A : Type 0} {good : A → Bool} {new : A → A} {xs : List A} {n : ℕ} {u : List A} {i : ℕ} (k : Changing good new xs n u i) where
   pub ends : n ≤ i → (true ≡ allOf good (take n xs)) × (u ≡ firstOf n new xs)
@@ -75,7 +69,3 @@ module _ (ws : List ℕ) (s : ℕ) (e : Task) where
       entry regs f (e .storing) (e .place) ≡ newEntry ws s e
   unfolding newEntry
   entry-new regs f p q = rw (p, q)
-
--- the length of an array of structs that is a field
-pub length-mapped : (X Y : Type 0) (f : X → Y) (l : List X) (n : ℕ) → length (map f l) ≡ n → length l ≡ n
-length-mapped X Y f l n p = sym (length-map l f) ∙ p

@@ -1,10 +1,10 @@
 // The end of an instruction, and the switch-over: the entries change, the words do not.
 ghost use mathlib.Core.Path.{_≡_};
-ghost use Prim.Native.Nat.{ℕ, _≤_, _<_};
-ghost use lib.ListN.{length, set, take};
+ghost use Prim.Native.Nat.{_≤_, _<_};
+ghost use lib.ListN.{set, take};
 ghost use Rattle.machine.specs.Basics.{allOf, firstOf, When};
 ghost use Rattle.machine.specs.Entries.{ends};
-ghost use Rattle.machine.specs.Switch.{newName, hasReplica, newPending, pendingHasReplica, newEntry, entryHasReplicas, switchOf, switchDue, endedEntry, finishOf};
+ghost use Rattle.machine.specs.Switch.{newName, hasReplica, newEntry, entryHasReplicas, switchOf, switchDue, endedEntry, finishOf};
 ghost use Rattle.switch.specs.Renamed.{Names, Remakes};
 use table::Answer;
 use table::Look;
@@ -91,13 +91,6 @@ fn roots(words: &[u32], s: u32, olds: [Primary; 8]) -> Row
     }
 }
 
-// A task's registers. (That there are eight is told by the contract: a caller cannot see it of an element of an array.)
-fn registers_of(e: Task) -> [Primary; 8]
-    ensures { λ r. ⌜ (r ≡ e .regs) × (length r ≡ 8) ⌝ }
-{
-    e.regs
-}
-
 // The pending pointer and the registers of each of the first p tasks.
 fn all_entries(words: &[u32], s: u32, p: usize, tasks: [Task; 8]) -> Entries
     requires { ⌜ p ≤ 8 ⌝ }
@@ -121,7 +114,7 @@ fn all_entries(words: &[u32], s: u32, p: usize, tasks: [Task; 8]) -> Entries
                 tasks: u,
             };
         };
-        let olds = registers_of(e);
+        let olds = entries::registers_of(e);
         let mut regs = olds;
         let mut r: usize = 0;
         while r < 8 {

@@ -1,12 +1,24 @@
--- complete::move_register: each return by the tests and the calls that led to it.
+-- move_register: what the opening leaves of the call; the opening gives the bounds.
 use native.Mathlib.Omega.{arith}
 use Rattle.machine.specs.Complete.{moveOf}
+use Rattle.machine.specs.Entries.{withRegister, withTask}
+use denote.Ref.{now}
+use Rattle.opening.proofs.Opens.{admitted, by-opening}
 use borrow.Author.Needs.{needs}
 use Rattle.complete.proofs.move_register.Statement.{statement}
 use Rattle.complete.proofs.move_register.Tie as tie
 
-pair-gate-requires : tie.Need-pair-gate-requires
-pair-gate-requires c κs = search needs
+cast-i : tie.Need-cast-i
+cast-i c = search needs
+
+mul-e : tie.Need-mul-e
+mul-e c = search needs
+
+element-copy-out-e : tie.Need-element-copy-out-e
+element-copy-out-e c = search needs
+
+turn-gate-requires : tie.Need-turn-gate-requires
+turn-gate-requires c κs = search needs
 
 enum-known-g : tie.Need-enum-known-g
 enum-known-g c = search needs
@@ -15,10 +27,11 @@ refused-requires : tie.Need-refused-requires
 refused-requires c κs = search needs
 
 returns : tie.Need-returns
-unfolding moveOf
+unfolding moveOf withRegister withTask
 returns c =
+    let s = c .before .before .before .before .before .before .before .before .before .args in
     rw (
-      ← (c .before .before .before .before .pair-gate .ensures .0),
+      by-opening (s .t) (now (s .words)) (s .task) (s .to) (s .from) _ (c .before .before .before .before .turn-gate .ensures) _,
       c .before .before .g .given .1,
       c .refused .ensures,
     )
@@ -26,64 +39,51 @@ returns c =
 enum-told : tie.Need-enum-told
 enum-told c = search needs
 
-mul-e : tie.Need-mul-e
-mul-e c = search needs
-
-element-copy-out-e : tie.Need-element-copy-out-e
-element-copy-out-e c = let f = rw (c .enum-told .given .1) at (c .before .before .pair-gate .ensures .1) in omega (arith, f .1, f .0 .sized .limited .p-high, f .2, f .3)
-
-idle-requires : tie.Need-idle-requires
-idle-requires c κs = search needs
-
-mul-p : tie.Need-mul-p
-mul-p c = search needs
-
-element-copy-out-p : tie.Need-element-copy-out-p
-element-copy-out-p c = let f = rw (c .before .before .before .enum-told .given .1) at (c .before .before .before .before .before .pair-gate .ensures .1) in omega (arith, f .1, f .0 .sized .limited .p-high, f .2, f .3)
+register-requires : tie.Need-register-requires
+register-requires c κs =
+    let s = c .before .before .before .before .before .before .before .args in
+    let k = admitted (s .t) (now (s .words)) (s .task) (s .to) (s .from) _ (c .before .before .turn-gate .ensures) (c .enum-told .given .1) in
+    omega (arith, k .a-high, k .b-high)
 
 with-register-requires : tie.Need-with-register-requires
-with-register-requires c κs = let f = rw (c .before .before .before .before .enum-told .given .1) at (c .before .before .before .before .before .before .pair-gate .ensures .1) in (omega (arith, f .1, f .0 .sized .limited .p-high, f .2, f .3), omega (arith, f .1, f .0 .sized .limited .p-high, f .2, f .3))
+with-register-requires c κs =
+    let s = c .before .before .before .before .before .before .before .before .args in
+    let k = admitted (s .t) (now (s .words)) (s .task) (s .to) (s .from) _ (c .before .before .before .turn-gate .ensures) (c .before .enum-told .given .1) in
+    omega (arith, k .a-high, k .b-high)
+
+mul-f : tie.Need-mul-f
+mul-f c = search needs
+
+element-set-from-f : tie.Need-element-set-from-f
+element-set-from-f c = search needs
 
 returns-2 : tie.Need-returns-2
-unfolding moveOf
+unfolding moveOf withRegister withTask
 returns-2 c =
+    let s = c .before .before .before .before .before .before .before .before .before .args in
+    let k = admitted (s .t) (now (s .words)) (s .task) (s .to) (s .from) _ (c .before .before .before .before .turn-gate .ensures) (c .before .before .enum-told .given .1) in
     rw (
-      ← (c .before .before .before .before .before .before .before .pair-gate .ensures .0),
-      c .before .before .before .before .before .enum-told .given .1,
-      ← (c .before .before .before .idle .ensures),
-      c .before .before .if1 .taken,
+      by-opening (s .t) (now (s .words)) (s .task) (s .to) (s .from) _ (c .before .before .before .before .turn-gate .ensures) _,
+      c .before .before .enum-told .given .1,
       c .with-register .ensures,
-    )
-
-refused-requires-2 : tie.Need-refused-requires-2
-refused-requires-2 c κs = search needs
-
-returns-3 : tie.Need-returns-3
-unfolding moveOf
-returns-3 c =
-    rw (
-      ← (c .before .before .before .before .before .before .pair-gate .ensures .0),
-      c .before .before .before .before .enum-told .given .1,
-      ← (c .before .before .idle .ensures),
-      c .before .if1 .left,
-      c .refused2 .ensures,
+      c .before .register .ensures,
+      k .own,
     )
 
 pub move-register-spec : {M : Type 1} → statement M
 move-register-spec =
     tie.close
     (tie.spec
-    pair-gate-requires
+    cast-i
+    mul-e
+    element-copy-out-e
+    turn-gate-requires
     enum-known-g
     refused-requires
     returns
     enum-told
-    mul-e
-    element-copy-out-e
-    idle-requires
-    mul-p
-    element-copy-out-p
+    register-requires
     with-register-requires
-    returns-2
-    refused-requires-2
-    returns-3)
+    mul-f
+    element-set-from-f
+    returns-2)

@@ -56,7 +56,7 @@ pub fn all_lines(words: &mut [u32], buf: &[u8], n: usize, out: &mut [u8], s: Sta
     let mut skip = s.skip;
     let mut t = s.table;
     while from < n {
-        let e = crate::lines::line_end(buf, from, n);
+        let e = blocks::line_end(buf, from, n);
         if n <= e {
             return Lines {
                 good: true,
@@ -66,7 +66,7 @@ pub fn all_lines(words: &mut [u32], buf: &[u8], n: usize, out: &mut [u8], s: Sta
                 table: t,
             };
         }
-        let place = crate::lines::room_in(out, used);
+        let place = blocks::room_in(out, used);
         let at = place.at;
         if !place.good {
             return Lines {

@@ -11,8 +11,8 @@ use Rattle.machine.specs.Tasks.{idleOf, holdingOf}
 use Rattle.machine.specs.Step.{settleOf, taskStepOf}
 use Rattle.new.specs.declared.Act.{Act}
 use Rattle.new.specs.Acts.{Came, came, failing, settleAct, settled}
-use Rattle.settle.specs.declared.After.{After}
-use Rattle.settle.proofs.Plain.{leaves, actAfter, plain-act}
+use Rattle.after.specs.declared.After.{After}
+use Rattle.after.proofs.Plain.{leaves, actAfter, plain-act}
 use Rattle.act_off.proofs.Settles.{off-settles}
 use Rattle.act_on.proofs.Settles.{on-settles}
 use Rattle.step.specs.TaskActs.{taskAct}

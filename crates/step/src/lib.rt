@@ -72,7 +72,7 @@ pub fn step(t: Table, words: &mut [u32], task: u32) -> Outcome
     let e = u.tasks[i];
     let a = task_act(on, l, upper, m, words, e);
     let end = gates::end_of(upper, l.h);
-    let n = settle::after_act(on, m, end, e, a);
+    let n = after::after_act(on, m, end, e, a);
     if n.plain {
         let marks = n.marks;
         let f = n.entry;

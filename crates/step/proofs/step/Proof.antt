@@ -3,7 +3,7 @@ use native.Mathlib.Omega.{arith}
 use mathlib.Core.Path.{_∙_, ap}
 use Rattle.machine.specs.Entries.{taskAt}
 use Rattle.machine.specs.Step.{stepOf}
-use Rattle.settle.specs.After.{afterOf}
+use Rattle.after.specs.Left.{afterOf}
 use Rattle.step.proofs.Acts.{step-whole, step-plain}
 use borrow.Author.Needs.{needs}
 use Rattle.step.proofs.step.Statement.{statement}

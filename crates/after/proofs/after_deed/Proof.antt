@@ -1,8 +1,8 @@
--- settle::after_deed: each return by the tests and the calls that led to it.
-use Rattle.settle.specs.After.{afterDeed}
+-- after::after_deed: each return by the tests and the calls that led to it.
+use Rattle.after.specs.Left.{afterDeed}
 use borrow.Author.Needs.{needs}
-use Rattle.settle.proofs.after_deed.Statement.{statement}
-use Rattle.settle.proofs.after_deed.Tie as tie
+use Rattle.after.proofs.after_deed.Statement.{statement}
+use Rattle.after.proofs.after_deed.Tie as tie
 
 enum-known-d : tie.Need-enum-known-d
 enum-known-d c = search needs

@@ -1,8 +1,8 @@
--- settle::after_act: each return by the tests and the calls that led to it.
-use Rattle.settle.specs.After.{afterOf}
+-- after::after_act: each return by the tests and the calls that led to it.
+use Rattle.after.specs.Left.{afterOf}
 use borrow.Author.Needs.{needs}
-use Rattle.settle.proofs.after_act.Statement.{statement}
-use Rattle.settle.proofs.after_act.Tie as tie
+use Rattle.after.proofs.after_act.Statement.{statement}
+use Rattle.after.proofs.after_act.Tie as tie
 
 enum-known-a : tie.Need-enum-known-a
 enum-known-a c = search needs

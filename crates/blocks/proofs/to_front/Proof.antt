@@ -1,10 +1,10 @@
--- heaprun::to_front: the loop by its invariant; each return by the tests and the calls that led to it.
+-- blocks::to_front: the loop by its invariant; each return by the tests and the calls that led to it.
 use Prim.Native.Nat.{_≤_, _+_, _-_}
 use mathlib.Core.Path.{_≡_}
 use lib.ListN.{length}
 use borrow.Author.Needs.{needs}
-use Rattle.heaprun.proofs.lines.to_front.Statement.{statement}
-use Rattle.heaprun.proofs.lines.to_front.Tie as tie
+use Rattle.blocks.proofs.to_front.Statement.{statement}
+use Rattle.blocks.proofs.to_front.Tie as tie
 
 abbrev Inv-loop : tie.InvT-loop
 Inv-loop buf₀ from n i₀ j₀ buf i j = (j ≤ n) × (j ≡ i + from) × (length buf ≡ length buf₀)

@@ -1,8 +1,8 @@
--- heaprun::line_end: the loop by its invariant; each return by the tests and the calls that led to it.
+-- blocks::line_end: the loop by its invariant; each return by the tests and the calls that led to it.
 use Prim.Native.Nat.{_≤_, _-_}
 use borrow.Author.Needs.{needs}
-use Rattle.heaprun.proofs.lines.line_end.Statement.{statement}
-use Rattle.heaprun.proofs.lines.line_end.Tie as tie
+use Rattle.blocks.proofs.line_end.Statement.{statement}
+use Rattle.blocks.proofs.line_end.Tie as tie
 
 abbrev Inv-loop : tie.InvT-loop
 Inv-loop buf from n i₀ i = (from ≤ i) × (i ≤ n)

@@ -1,9 +1,9 @@
--- heaprun::flush: each return by the tests and the calls that led to it.
+-- blocks::flush: each return by the tests and the calls that led to it.
 use lib.Seq.{length-take-le}
 use Prim.Native.Nat.{_-_}
 use borrow.Author.Needs.{needs}
-use Rattle.heaprun.proofs.lines.flush.Statement.{statement}
-use Rattle.heaprun.proofs.lines.flush.Tie as tie
+use Rattle.blocks.proofs.flush.Statement.{statement}
+use Rattle.blocks.proofs.flush.Tie as tie
 
 slice-aggregate-write-all : tie.Need-slice-aggregate-write-all
 slice-aggregate-write-all c = simp (length-take-le, c .before .before .pre)

@@ -1,8 +1,8 @@
--- settle::quiet: each return by the tests and the calls that led to it.
+-- after::quiet: each return by the tests and the calls that led to it.
 use Rattle.machine.proofs.Rules.{tests}
-use Rattle.settle.specs.After.{quietOf}
-use Rattle.settle.proofs.quiet.Statement.{statement}
-use Rattle.settle.proofs.quiet.Tie as tie
+use Rattle.after.specs.Left.{quietOf}
+use Rattle.after.proofs.quiet.Statement.{statement}
+use Rattle.after.proofs.quiet.Tie as tie
 
 returns : tie.Need-returns
 unfolding quietOf

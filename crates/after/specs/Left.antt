@@ -15,7 +15,7 @@ use Rattle.machine.specs.Entries.{entry, table}
 use Rattle.machine.specs.Switch.{endedEntry}
 use Rattle.new.specs.declared.Act.{Act}
 use Rattle.new.specs.declared.Act.the-variants.{Does, Asks, Denied, Drained}
-use Rattle.settle.specs.declared.After.{After}
+use Rattle.after.specs.declared.After.{After}
 
 abbrev pub after : Bool → Marks → Task → Answer → After
 after plain m e x = record { plain = plain; marks = m; entry = e; answer = x }

@@ -20,8 +20,8 @@ use Rattle.machine.specs.Step.{settleOf}
 use Rattle.new.specs.declared.Act.{Act}
 use Rattle.new.specs.declared.Act.the-variants.{Does, Asks, Denied, Drained}
 use Rattle.new.specs.Acts.{settleAct}
-use Rattle.settle.specs.declared.After.{After}
-use Rattle.settle.specs.After.{quietOf, afterDeed, afterOf, entered}
+use Rattle.after.specs.declared.After.{After}
+use Rattle.after.specs.Left.{quietOf, afterDeed, afterOf, entered}
 
 -- what is not quiet brings no switch-over, whatever the tasks hold
 pub unquiet : (on a b c d : Bool) → not (pick on (pick a false (pick b false true)) false) ≡ true → pick on (pick (pick a true (pick b true c)) false d) false ≡ false

@@ -65,8 +65,15 @@ pub fn step(t: Table, words: &mut [u32], task: u32) -> Outcome
     let on = u.on;
     let upper = u.upper;
     let g = gates::task_gate(l, life, upper, m, words.len(), task);
+    // (A refusal's outcome is taken apart: handed on whole, it costs every step one more copy of the table.)
     if let Gate::Shut(x) = g {
-        return entries::refused(u, x);
+        let o = entries::refused(u, x);
+        let same = o.table;
+        let no = o.answer;
+        return Outcome {
+            table: same,
+            answer: no,
+        };
     }
     let i = task as usize;
     let e = u.tasks[i];

@@ -20,7 +20,8 @@ refused-requires c κs = search needs
 
 returns : tie.Need-returns
 unfolding stepOf
-returns c = rw (← (c .before .before .before .before .task-gate .ensures .0), c .before .before .g .given .1, c .refused .ensures)
+returns c =
+    rw (← (c .before .before .before .before .before .task-gate .ensures .0), c .before .before .before .g .given .1, c .before .refused .ensures)
 
 enum-told : tie.Need-enum-told
 enum-told c = search needs

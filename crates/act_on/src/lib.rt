@@ -17,63 +17,62 @@ pub fn on_act(l: Limits, upper: bool, m: Marks, words: &mut [u32], e: Task) -> A
     requires { ⌜ Sound l upper m (length (now words)) ⌝ }
     ensures { λ r. ⌜ came r (now (words .exit)) ≡ onAct l m (endOf upper (l .h)) (now (words .entry)) e (e .place) ⌝ }
 {
+    let s = l.s;
+    let rate = l.k;
+    let pending = e.pending;
+    let storing = e.storing;
     let place = e.place;
     match place {
         Place::Idle => new::failing(Refusal::OutOfTurn),
         Place::New(r, len, k) => new::new_on(l, upper, m, words, r, len, k),
         Place::Asked(_, _, _) => new::failing(Refusal::Damaged),
         Place::FillWrite(v) => {
-            let pending = e.pending;
-            let d = fill::fill_write(true, m, words, l.s, pending, v);
+            let d = fill::fill_write(true, m, words, s, pending, v);
             Act::Does(d)
         }
         Place::FillCopy(c) => {
-            let pending = e.pending;
-            let d = fill::fill_copy(m, words, l.s, l.k, pending, c);
+            let d = fill::fill_copy(m, words, s, rate, pending, c);
             Act::Does(d)
         }
         Place::StoreWrite(v) => {
-            let storing = e.storing;
-            let d = store::store_write(true, m, words, l.s, storing, v);
+            let d = store::store_write(true, m, words, s, storing, v);
             Act::Does(d)
         }
         Place::Meet(v) => {
-            let storing = e.storing;
-            let d = store::meet(m, words, l.s, l.k, storing, v);
+            let d = store::meet(m, words, s, rate, storing, v);
             Act::Does(d)
         }
         Place::StoreCopy(c) => {
-            let storing = e.storing;
-            let d = store::store_copy(m, words, l.s, l.k, storing, c);
+            let d = store::store_copy(m, words, s, rate, storing, c);
             Act::Does(d)
         }
         Place::Take(n) => {
             let end = gates::end_of(upper, l.h);
             if m.top < end {
-                let d = pay::take(m, words, l.s, n);
+                let d = pay::take(m, words, s, n);
                 return Act::Does(d);
             }
             Act::Drained
         },
         Place::Read(n, x, k) => {
-            let d = pay::read(m, words, l.s, n, x, k);
+            let d = pay::read(m, words, s, n, x, k);
             Act::Does(d)
         }
         Place::Put(n, x, k, c) => {
-            let d = pay::put(m, words, l.s, n, x, k, c);
+            let d = copy::put(m, words, s, n, x, k, c);
             Act::Does(d)
         }
         Place::Release(n, x, k) => {
-            let d = pay::release(m, words, l.s, n, x, k);
+            let d = copy::release(m, words, s, n, x, k);
             Act::Does(d)
         }
         Place::Looking(p, then) => {
-            let d = look::look_step(m, words, l.s, p, then);
+            let d = look::look_step(m, words, s, p, then);
             Act::Does(d)
         }
         Place::Placing(p, then) => {
             let end = gates::end_of(upper, l.h);
-            let d = look::place_step(m, end, words, l.s, p, then);
+            let d = look::place_step(m, end, words, s, p, then);
             Act::Does(d)
         }
     }

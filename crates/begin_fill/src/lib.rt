@@ -1,4 +1,4 @@
-// Begin of Fill, with a plain word or a pointer: no word is written, and the task's first place is recorded.
+// Begin of Fill with a plain word, and what that with a pointer shares: no word is written, and the task's first place is recorded.
 ghost use mathlib.Core.Path.{_≡_};
 ghost use Rattle.machine.specs.Entries.{entry, ends};
 ghost use Rattle.table.specs.declared.Place.the-variants.{FillWrite};
@@ -17,7 +17,7 @@ use table::Table;
 use table::Task;
 
 // The tests of a Fill behind the opening: `no` says that the heap is held; the next slot of the pending object takes v.
-fn fill_gate(words: &[u32], s: u32, no: bool, e: Task, v: Operand) -> Gate
+pub fn fill_gate(words: &[u32], s: u32, no: bool, e: Task, v: Operand) -> Gate
     ensures { λ g. ⌜ g ≡ fillGateOf (now (words .entry)) s no v (e .pending) ⌝ }
 {
     let pending = e.pending;
@@ -42,7 +42,7 @@ fn fill_gate(words: &[u32], s: u32, no: bool, e: Task, v: Operand) -> Gate
 }
 
 // The entry of a task whose Fill has begun.
-fn begun(e: Task, v: Operand) -> Task
+pub fn begun(e: Task, v: Operand) -> Task
     ensures { λ f. ⌜ f ≡ entry (e .regs) (e .pending) (e .storing) (FillWrite v) ⌝ }
 {
     Task {
@@ -67,35 +67,6 @@ pub fn begin_fill(t: Table, words: &[u32], task: u32, word: u32) -> Outcome
     let ts = u.tasks;
     let no = opening::held(l, u.upper, u.on, m, ts);
     let v = Operand::Plain(word);
-    let k = fill_gate(words, l.s, no, e, v);
-    if let Gate::Shut(x) = k {
-        return entries::refused(u, x);
-    }
-    let f = begun(e, v);
-    u.tasks[i] = f;
-    Outcome {
-        table: u,
-        answer: Answer::Accepted,
-    }
-}
-
-pub fn begin_fill_pointer(t: Table, words: &[u32], task: u32, r: u32) -> Outcome
-    ensures { λ o. ⌜ Meets (Call.FillPointer task r) t (now (words .entry)) (ends o (now (words .entry))) ⌝ }
-{
-    let mut u = t;
-    let i = (task % 8) as usize;
-    let e = u.tasks[i];
-    let l = u.limits;
-    let life = u.life;
-    let m = u.marks;
-    let g = opening::turn_gate(l, life, u.upper, m, words.len(), task, r, r, e);
-    if let Gate::Shut(x) = g {
-        return entries::refused(u, x);
-    }
-    let ts = u.tasks;
-    let no = opening::held(l, u.upper, u.on, m, ts);
-    let p = entries::register(e, r as usize);
-    let v = Operand::Pointer(p);
     let k = fill_gate(words, l.s, no, e, v);
     if let Gate::Shut(x) = k {
         return entries::refused(u, x);

@@ -1,4 +1,4 @@
-// Begin of Store, of a plain word or a pointer: no word is written, and the task's first place is recorded.
+// Begin of Store of a plain word, and what that of a pointer shares: no word is written, and the task's first place is recorded.
 ghost use mathlib.Core.Path.{_≡_};
 ghost use Prim.Native.Nat.{_+_, _<_};
 ghost use lib.ListN.{length, getD};
@@ -22,7 +22,7 @@ use table::Task;
 use table::Then;
 
 // The tests of a Store behind the opening: `no` says that the heap is held, `taken` that another task's Store is on the slot.
-fn store_gate(
+pub fn store_gate(
     words: &[u32],
     s: u32,
     no: bool,
@@ -76,7 +76,7 @@ fn store_place(on: bool, old: u32, v: Operand) -> Place
 }
 
 // The entry of a task whose Store has begun.
-fn begun(e: Task, words: &[u32], on: bool, x: Primary, slot: u32, v: Operand) -> Task
+pub fn begun(e: Task, words: &[u32], on: bool, x: Primary, slot: u32, v: Operand) -> Task
     requires { ⌜ x .0 + slot < length (now words) ⌝ }
     ensures { λ f. ⌜ f ≡ entry (e .regs) (e .pending) (Slot x slot) (storePlace on (getD (now (words .entry)) (x .0 + slot) 0) v) ⌝ }
 {
@@ -106,51 +106,13 @@ pub fn begin_store(t: Table, words: &[u32], task: u32, object: u32, slot: u32, w
     let ts = u.tasks;
     let no = opening::held(l, u.upper, u.on, m, ts);
     let x = entries::register(e, object as usize);
-    let taken = tasks::slot_taken(ts, l.p as usize, task, x, slot);
+    let taken = search::slot_taken(ts, l.p as usize, task, x, slot);
     let v = Operand::Plain(word);
     let k = store_gate(words, l.s, no, taken, x, slot, v);
     if let Gate::Shut(y) = k {
         return entries::refused(u, y);
     }
     let f = begun(e, words, u.on, x, slot, v);
-    u.tasks[i] = f;
-    Outcome {
-        table: u,
-        answer: Answer::Accepted,
-    }
-}
-
-pub fn begin_store_pointer(
-    t: Table,
-    words: &[u32],
-    task: u32,
-    object: u32,
-    slot: u32,
-    r: u32,
-) -> Outcome
-    ensures { λ o. ⌜ Meets (Call.StorePointer task object slot r) t (now (words .entry)) (ends o (now (words .entry))) ⌝ }
-{
-    let mut u = t;
-    let i = (task % 8) as usize;
-    let e = u.tasks[i];
-    let l = u.limits;
-    let life = u.life;
-    let m = u.marks;
-    let g = opening::turn_gate(l, life, u.upper, m, words.len(), task, object, r, e);
-    if let Gate::Shut(x) = g {
-        return entries::refused(u, x);
-    }
-    let ts = u.tasks;
-    let no = opening::held(l, u.upper, u.on, m, ts);
-    let p = entries::register(e, object as usize);
-    let taken = tasks::slot_taken(ts, l.p as usize, task, p, slot);
-    let q = entries::register(e, r as usize);
-    let v = Operand::Pointer(q);
-    let k = store_gate(words, l.s, no, taken, p, slot, v);
-    if let Gate::Shut(y) = k {
-        return entries::refused(u, y);
-    }
-    let f = begun(e, words, u.on, p, slot, v);
     u.tasks[i] = f;
     Outcome {
         table: u,

@@ -87,3 +87,13 @@ pub fn next_block(buf: &mut [u8], have: usize, skip: bool) -> Block
     let n = have + io::count(got, &buf[have..]);
     Block { last: false, n: n }
 }
+
+// How many words a heap of half size H has; none for an H that no heap has.
+pub fn size_of(h: u32) -> usize
+    ensures { λ r. ⌜ r ≤ 16382 ⌝ }
+{
+    if 8190 < h {
+        return 0;
+    }
+    2 + 2 * (h as usize)
+}

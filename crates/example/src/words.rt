@@ -79,7 +79,7 @@ fn grey(t: Table) -> u64 {
         return 0;
     }
     let end = gates::end_of(t.upper, h);
-    let g = tasks::grey(m, end, ts, p);
+    let g = search::grey(m, end, ts, p);
     if t.on {
         if g {
             return 1;

@@ -45,7 +45,6 @@ pub mod Demand2
 pub mod Exact
 pub mod Before
 pub mod Stored
-pub mod StoredRun
 pub mod Named
 pub mod Collecting
 pub mod Histories

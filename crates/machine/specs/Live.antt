@@ -3,4 +3,3 @@ pub mod Live
 pub mod SearchLaws
 pub mod Laws
 pub mod Filled
-pub mod Run

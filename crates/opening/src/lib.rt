@@ -51,7 +51,7 @@ pub fn held(l: Limits, upper: bool, on: bool, m: Marks, tasks: [Task; 8]) -> boo
     ensures { λ r. ⌜ r ≡ heldOf on m (endOf upper (l .h)) tasks (l .p) ⌝ }
 {
     let end = gates::end_of(upper, l.h);
-    tasks::held(on, m, end, tasks, l.p as usize)
+    search::held(on, m, end, tasks, l.p as usize)
 }
 
 // A pointer is given for a pointer slot, or a plain word for a plain one.

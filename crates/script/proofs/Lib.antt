@@ -2,4 +2,3 @@ pub mod Scan
 pub mod Fields
 pub mod Names
 pub mod Whole
-pub mod Put

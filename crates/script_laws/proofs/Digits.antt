@@ -7,7 +7,7 @@ use mathlib.Core.Bool.{Bool, true, false}
 use lib.Dec.{ltb}
 use borrow.Author.Tests.{le-ltb, ne-eqb, ltb-true, ltb-false}
 use Rattle.script.specs.Line.{none, some, digit, digitsFrom, fieldNumber}
-use Rattle.script.specs.Text.{spelled, decimal}
+use Rattle.answers.specs.Text.{spelled, decimal}
 
 pub not-none : (n : ℕ) → none ≡ some n → ⊥
 not-none n e = let z : _≡_ {A = ℕ} 0 1 = cc in omega arith

@@ -7,7 +7,7 @@ use mathlib.Core.Bool.{Bool, true, false, false≢true}
 use lib.Dec.{ltb, eqb}
 use borrow.Author.Tests.{ne-eqb}
 use Rattle.machine.specs.Basics.{pick}
-use Rattle.script.specs.Text.{spelled, decimal}
+use Rattle.answers.specs.Text.{spelled, decimal}
 use Rattle.script_laws.specs.Lines.{lacks}
 
 -- what a text that begins with b shows

@@ -9,8 +9,8 @@ use Rattle.machine.specs.Numbers.{valuesOf, numberOf}
 use Rattle.table.specs.declared.Answer.{Answer}
 use Rattle.table.specs.declared.Answer.the-variants.{Accepted, Done, Value, Moved, Wait, Report, No}
 use Rattle.script.specs.Line.{ascii}
-use Rattle.script.specs.Text.{decimal, newline, modeText, reportText, answerText, unreadableText}
-use Rattle.script.proofs.Put.{decimal-ten}
+use Rattle.answers.specs.Text.{decimal, newline, modeText, reportText, answerText, unreadableText}
+use Rattle.answers.proofs.Put.{decimal-ten}
 use Rattle.script_laws.specs.Calls.{Small}
 use Rattle.script_laws.specs.Lines.{lacks, OneLine}
 use Rattle.script_laws.proofs.Lacks.{lacks-append, decimal-lacks}

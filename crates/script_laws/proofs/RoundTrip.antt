@@ -7,7 +7,7 @@ use mathlib.Core.List.{List, [], _∷_, _++_, append-nil, map}
 use mathlib.Core.Bool.{true}
 use Rattle.machine.specs.Call.{Call, New, Fill, FillPointer, Load, Store, StorePointer, Move, Clear, Same, Put, Get, Step, Report}
 use Rattle.script.specs.Line.{fields, numbers, fieldNumbers, ascii, nameIs, recordBy, lineOf, defaultRate}
-use Rattle.script.specs.Text.{decimal}
+use Rattle.answers.specs.Text.{decimal}
 use Rattle.script.specs.declared.Said.the-variants as said
 use Rattle.script_laws.specs.Calls.{tabbed, recordFor, Small, nameFor, numbersFor, lineFor, saidFor, setupLine, shortSetupLine}
 use Rattle.script_laws.specs.Lines.{lacks}

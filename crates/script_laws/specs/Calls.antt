@@ -4,7 +4,7 @@ use Prim.Native.String.{String}
 use mathlib.Core.List.{List, [], _∷_, _++_}
 use Rattle.machine.specs.Call.{Call, New, Fill, FillPointer, Load, Store, StorePointer, Move, Clear, Same, Put, Get, Step, Report}
 use Rattle.script.specs.Line.{ascii, tab}
-use Rattle.script.specs.Text.{decimal}
+use Rattle.answers.specs.Text.{decimal}
 use Rattle.script.specs.declared.Said.{Said}
 use Rattle.script.specs.declared.Said.the-variants as said
 

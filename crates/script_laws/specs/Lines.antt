@@ -6,7 +6,7 @@ use mathlib.Core.Bool.{Bool, true, false}
 use lib.ListN.{length}
 use lib.Dec.{eqb}
 use Rattle.machine.specs.Basics.{pick}
-use Rattle.script.specs.Text.{newline}
+use Rattle.answers.specs.Text.{newline}
 
 -- the byte x does not occur
 abbrev pub lacks : ℕ → List ℕ → Bool

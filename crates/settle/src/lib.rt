@@ -2,7 +2,8 @@
 ghost use mathlib.Core.Path.{_≡_};
 ghost use Prim.Native.Nat.{ℕ, _+_, _*_, _≤_, _<_};
 ghost use lib.ListN.{length};
-ghost use Rattle.machine.specs.Entries.{ends};
+ghost use Rattle.machine.specs.Entries.{ends, taskAt, movedTable};
+ghost use Rattle.machine.specs.Switch.{finishOf};
 ghost use Rattle.table.specs.declared.Place.the-variants.{Asked};
 ghost use Rattle.table.specs.declared.Sought.the-variants.{Blocker};
 ghost use Rattle.machine.specs.Tasks.{seekOf};
@@ -13,6 +14,7 @@ use new::Act;
 use table::Answer;
 use table::Deed;
 use table::Found;
+use table::Marks;
 use table::Outcome;
 use table::Place;
 use table::Refusal;
@@ -26,7 +28,7 @@ fn wait(t: Table, w: Sought) -> Outcome
 {
     let l = t.limits;
     let ts = t.tasks;
-    let f = tasks::seek(ts, l.p as usize, w);
+    let f = search::seek(ts, l.p as usize, w);
     let Found::At(holder) = f else {
         return entries::refused(t, Refusal::Damaged);
     };
@@ -36,6 +38,26 @@ fn wait(t: Table, w: Sought) -> Outcome
     }
 }
 
+// Task i goes on, with its pending object as it is.
+fn goes(t: Table, i: usize, m: Marks, place: Place) -> Table
+    requires { ⌜ i < 8 ⌝ }
+    ensures { λ r. ⌜ r ≡ movedTable t i m (taskAt t i .pending) place ⌝ }
+{
+    let e = t.tasks[i];
+    let pending = e.pending;
+    entries::moved_table(t, i, m, pending, place)
+}
+
+// Task i's instruction ends, with its pending object as it is.
+fn ended(t: Table, words: &[u32], i: usize, m: Marks, x: Answer) -> Outcome
+    requires { ⌜ (t .limits .p ≤ 8) × (t .limits .h ≤ 8190) × (i < 8) ⌝ }
+    ensures { λ r. ⌜ ends r (now (words .entry)) ≡ finishOf t (now (words .entry)) i m (taskAt t i .pending) x ⌝ }
+{
+    let e = t.tasks[i];
+    let pending = e.pending;
+    switch::finish(t, words, i, m, pending, x)
+}
+
 // What an action of task i makes of the table.
 fn settle(t: Table, words: &[u32], i: usize, d: Deed) -> Outcome
     requires { ⌜ (t .limits .p ≤ 8) × (t .limits .h ≤ 8190) × (i < 8) ⌝ }
@@ -43,9 +65,7 @@ fn settle(t: Table, words: &[u32], i: usize, d: Deed) -> Outcome
 {
     match d {
         Deed::Goes(m, place) => {
-            let e = t.tasks[i];
-            let pending = e.pending;
-            let u = entries::moved_table(t, i, m, pending, place);
+            let u = goes(t, i, m, place);
             Outcome {
                 table: u,
                 answer: Answer::Moved,
@@ -58,11 +78,7 @@ fn settle(t: Table, words: &[u32], i: usize, d: Deed) -> Outcome
                 answer: Answer::Moved,
             }
         }
-        Deed::Ends(m) => {
-            let e = t.tasks[i];
-            let pending = e.pending;
-            switch::finish(t, words, i, m, pending, Answer::Done)
-        }
+        Deed::Ends(m) => ended(t, words, i, m, Answer::Done),
         Deed::EndsWith(m, pending) => switch::finish(t, words, i, m, pending, Answer::Done),
         Deed::Waits(w) => wait(t, w),
         Deed::Fails(x) => entries::refused(t, x),
@@ -78,13 +94,12 @@ fn empty_take(t: Table, words: &[u32], i: usize) -> Outcome
     let m = t.marks;
     let ts = t.tasks;
     let end = gates::end_of(t.upper, l.h);
-    let g = tasks::grey(m, end, ts, l.p as usize);
+    let g = search::grey(m, end, ts, l.p as usize);
     if g {
-        return wait(t, Sought::Worker(i as u32));
+        let me = i as u32;
+        return wait(t, Sought::Worker(me));
     }
-    let e = t.tasks[i];
-    let pending = e.pending;
-    switch::finish(t, words, i, m, pending, Answer::Done)
+    ended(t, words, i, m, Answer::Done)
 }
 
 // A New asks for a flip, which is made if no other task stands in its way; else the asking is recorded.
@@ -94,7 +109,7 @@ fn ask(t: Table, words: &mut [u32], i: usize, r: u32, len: u32, m: u32) -> Outco
 {
     let l = t.limits;
     let ts = t.tasks;
-    let w = tasks::seek(ts, l.p as usize, Sought::Blocker(i as u32));
+    let w = search::seek(ts, l.p as usize, Sought::Blocker(i as u32));
     let Found::At(q) = w else {
         return flip::flip(t, words);
     };

@@ -15,7 +15,7 @@ use Rattle.after.specs.declared.After.{After}
 use Rattle.after.proofs.Plain.{leaves, actAfter, plain-act}
 use Rattle.act_off.proofs.Settles.{off-settles}
 use Rattle.act_on.proofs.Settles.{on-settles}
-use Rattle.step.specs.TaskActs.{taskAct}
+use Rattle.acts.specs.TaskActs.{taskAct}
 
 -- a refusal
 pub refused-settles : (t : Table) (ws : List ℕ) (i n : ℕ) → ends (no t n) ws ≡ settled t i (failing n ws)

@@ -1,13 +1,10 @@
 // The end of an instruction, and the switch-over: the entries change, the words do not.
 ghost use mathlib.Core.Path.{_≡_};
 ghost use Prim.Native.Nat.{_≤_, _<_};
-ghost use lib.ListN.{set, take};
-ghost use Rattle.machine.specs.Basics.{allOf, firstOf, When};
+ghost use lib.ListN.{set};
 ghost use Rattle.machine.specs.Entries.{ends};
-ghost use Rattle.machine.specs.Switch.{newName, hasReplica, newEntry, entryHasReplicas, switchOf, switchDue, endedEntry, finishOf};
-ghost use Rattle.switch.specs.Renamed.{Names, Remakes};
+ghost use Rattle.machine.specs.Switch.{switchOf, switchDue, endedEntry, finishOf};
 use table::Answer;
-use table::Look;
 use table::Marks;
 use table::Outcome;
 use table::Pending;
@@ -19,125 +16,6 @@ use table::Storing;
 use table::Table;
 use table::Task;
 
-// What a pointer becomes, or that it has no replica.
-pub enum Renamed {
-    To(Primary),
-    Lost,
-}
-
-pub enum Remade {
-    Kept(Pending),
-    Gone,
-}
-
-// Eight pointers made new; good: each had a replica.
-pub struct Row {
-    pub good: bool,
-    pub qs: [Primary; 8],
-}
-
-pub struct Entries {
-    pub good: bool,
-    pub tasks: [Task; 8],
-}
-
-fn new_name(words: &[u32], s: u32, p: Primary) -> Renamed
-    ensures { λ r. ⌜ Names r (now (words .entry)) s p ⌝ }
-{
-    let at = p.0;
-    if at == 0 {
-        return Renamed::To(p);
-    }
-    let seen = objects::look_at(words, s, p);
-    let Look::Forwarded(r, _) = seen else {
-        return Renamed::Lost;
-    };
-    Renamed::To(Primary(r.0))
-}
-
-fn new_pending(words: &[u32], s: u32, d: Pending) -> Remade
-    ensures { λ r. ⌜ Remakes r (now (words .entry)) s d ⌝ }
-{
-    let Pending::Making(p, r, len, f) = d else {
-        return Remade::Kept(d);
-    };
-    let v = new_name(words, s, p);
-    let Renamed::To(q) = v else {
-        return Remade::Gone;
-    };
-    Remade::Kept(Pending::Making(q, r, len, f))
-}
-
-// The shared roots.
-fn roots(words: &[u32], s: u32, olds: [Primary; 8]) -> Row
-    ensures { λ r. ⌜ (r .good ≡ allOf (hasReplica (now (words .entry)) s) (take 8 olds)) × When (r .good) (r .qs ≡ firstOf 8 (newName (now (words .entry)) s) olds) ⌝ }
-{
-    let mut qs = olds;
-    let mut i: usize = 0;
-    loop {
-        if i >= 8 {
-            break Row { good: true, qs: qs };
-        }
-        let q = olds[i];
-        let v = new_name(words, s, q);
-        let Renamed::To(x) = v else {
-            break Row {
-                good: false,
-                qs: qs,
-            };
-        };
-        qs[i] = x;
-        i = i + 1;
-    }
-}
-
-// The pending pointer and the registers of each of the first p tasks.
-fn all_entries(words: &[u32], s: u32, p: usize, tasks: [Task; 8]) -> Entries
-    requires { ⌜ p ≤ 8 ⌝ }
-    ensures { λ r. ⌜ (r .good ≡ allOf (entryHasReplicas (now (words .entry)) s) (take p tasks)) × When (r .good) (r .tasks ≡ firstOf p (newEntry (now (words .entry)) s) tasks) ⌝ }
-{
-    let mut u = tasks;
-    let mut i: usize = 0;
-    'tasks: loop {
-        if i >= p {
-            break Entries {
-                good: true,
-                tasks: u,
-            };
-        }
-        let e = tasks[i];
-        let d = e.pending;
-        let m = new_pending(words, s, d);
-        let Remade::Kept(f) = m else {
-            break Entries {
-                good: false,
-                tasks: u,
-            };
-        };
-        let olds = entries::registers_of(e);
-        let mut regs = olds;
-        let mut r: usize = 0;
-        while r < 8 {
-            let q = olds[r];
-            let v = new_name(words, s, q);
-            let Renamed::To(x) = v else {
-                break 'tasks Entries {
-                    good: false,
-                    tasks: u,
-                };
-            };
-            regs[r] = x;
-            r = r + 1;
-        }
-        u[i] = Task {
-            regs: regs,
-            pending: f,
-            ..e
-        };
-        i = i + 1;
-    }
-}
-
 // t, the table after the action, switched over; or `came`, the table before it, dead for a pointer without replica.
 fn switch_over(came: Table, t: Table, words: &[u32], x: Answer) -> Outcome
     requires { ⌜ t .limits .p ≤ 8 ⌝ }
@@ -148,9 +26,9 @@ fn switch_over(came: Table, t: Table, words: &[u32], x: Answer) -> Outcome
     let p = l.p as usize;
     let olds = t.roots;
     let ts = t.tasks;
-    let a = roots(words, s, olds);
+    let a = renames::roots(words, s, olds);
     if a.good {
-        let b = all_entries(words, s, p, ts);
+        let b = renames::all_entries(words, s, p, ts);
         if b.good {
             let qs = a.qs;
             let es = b.tasks;
@@ -180,11 +58,11 @@ fn switch_due(t: Table) -> bool
     let p = l.p as usize;
     if t.on {
         let end = gates::end_of(t.upper, l.h);
-        let g = tasks::grey(m, end, ts, p);
+        let g = search::grey(m, end, ts, p);
         if g {
             return false;
         }
-        let busy = tasks::any(ts, p, Sought::Busy);
+        let busy = search::any(ts, p, Sought::Busy);
         return !busy;
     }
     false

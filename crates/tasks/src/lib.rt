@@ -1,13 +1,10 @@
-// What tasks hold, and the searches over them.
+// What a task holds, and whether it is sought.
 ghost use mathlib.Core.Path.{_≡_};
 ghost use mathlib.Core.Bool.{not};
-ghost use Prim.Native.Nat.{ℕ, _≤_};
 ghost use lib.Dec.{eqb};
 ghost use Rattle.machine.specs.Tasks.{lookHolds, placeHolds, holdingOf, idleOf, asksOf, claimsOf, worksOf, blocksOf, claimIs, jobIs, slotIs};
-ghost use Rattle.machine.specs.Tasks.{soughtOf, soughtTask, seekOf, some, storeThere, slotTaken, greyOf, heldOf};
-use table::Found;
+ghost use Rattle.machine.specs.Tasks.{soughtOf, soughtTask, storeThere};
 use table::Holding;
-use table::Marks;
 use table::Place;
 use table::Primary;
 use table::Sought;
@@ -212,7 +209,8 @@ fn sought(w: Sought, i: u32, h: Holding) -> bool
     }
 }
 
-fn task_sought(w: Sought, i: u32, e: Task) -> bool
+// The same by its entry.
+pub fn task_sought(w: Sought, i: u32, e: Task) -> bool
     ensures { λ r. ⌜ r ≡ soughtTask w i e ⌝ }
 {
     let place = e.place;
@@ -220,38 +218,8 @@ fn task_sought(w: Sought, i: u32, e: Task) -> bool
     sought(w, i, h)
 }
 
-// The lowest-numbered task that is sought: a loop left by a break with the found task.
-pub fn seek(tasks: [Task; 8], p: usize, w: Sought) -> Found
-    requires { ⌜ p ≤ 8 ⌝ }
-    ensures { λ r. ⌜ r ≡ seekOf tasks p w ⌝ }
-{
-    let mut i: usize = 0;
-    loop {
-        if i >= p {
-            break Found::Nobody;
-        }
-        let e = tasks[i];
-        let b = task_sought(w, i as u32, e);
-        if b {
-            break Found::At(i as u32);
-        }
-        i = i + 1;
-    }
-}
-
-// Whether there is such a task.
-pub fn any(tasks: [Task; 8], p: usize, w: Sought) -> bool
-    requires { ⌜ p ≤ 8 ⌝ }
-    ensures { λ r. ⌜ r ≡ some tasks p w ⌝ }
-{
-    let f = seek(tasks, p, w);
-    match f {
-        Found::At(_) => true,
-        Found::Nobody => false,
-    }
-}
-
-fn store_there(me: u32, y: Primary, k: u32, i: u32, e: Task) -> bool
+// Task i is another than me, and its unfinished Store is on this object and slot.
+pub fn store_there(me: u32, y: Primary, k: u32, i: u32, e: Task) -> bool
     ensures { λ r. ⌜ r ≡ storeThere me y k i e ⌝ }
 {
     if i == me {
@@ -262,54 +230,4 @@ fn store_there(me: u32, y: Primary, k: u32, i: u32, e: Task) -> bool
         Storing::Nowhere => false,
         Storing::Slot(x, l) => same_slot(y, k, x, l),
     }
-}
-
-// Another task's unfinished Store is on this object and slot.
-pub fn slot_taken(tasks: [Task; 8], p: usize, me: u32, y: Primary, k: u32) -> bool
-    requires { ⌜ p ≤ 8 ⌝ }
-    ensures { λ r. ⌜ r ≡ slotTaken tasks p me y k ⌝ }
-{
-    let mut i: usize = 0;
-    loop {
-        if i >= p {
-            break false;
-        }
-        let e = tasks[i];
-        let b = store_there(me, y, k, i as u32, e);
-        if b {
-            break true;
-        }
-        i = i + 1;
-    }
-}
-
-// Something is on the stack, in hand, or claimed and not yet placed.
-pub fn grey(m: Marks, end: u32, tasks: [Task; 8], p: usize) -> bool
-    requires { ⌜ p ≤ 8 ⌝ }
-    ensures { λ r. ⌜ r ≡ greyOf m end tasks p ⌝ }
-{
-    let top = m.top;
-    let j = m.j;
-    if top < end {
-        return true;
-    }
-    if 0 < j {
-        return true;
-    }
-    any(tasks, p, Sought::Claiming)
-}
-
-// A flip is asked and not yet made, or the heap is closing.
-pub fn held(on: bool, m: Marks, end: u32, tasks: [Task; 8], p: usize) -> bool
-    requires { ⌜ p ≤ 8 ⌝ }
-    ensures { λ r. ⌜ r ≡ heldOf on m end tasks p ⌝ }
-{
-    if on {
-        let g = grey(m, end, tasks, p);
-        if g {
-            return false;
-        }
-        return any(tasks, p, Sought::Busy);
-    }
-    any(tasks, p, Sought::Asking)
 }

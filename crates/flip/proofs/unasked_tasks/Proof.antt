@@ -1,9 +1,9 @@
--- Rests on the invariant Renewing (Turns), over the first p entries.
+-- Rests on the invariant Renewing (Renewed), over the first p entries.
 use Prim.Native.Nat.{_-_}
 use borrow.Author.Needs.{needs}
 use Rattle.machine.specs.Flip.{unaskedEntry}
 use Rattle.machine.specs.Entries.{noTask}
-use Rattle.flip.proofs.Turns.{Renewing, none-new, one-more, all-new}
+use Rattle.flip.proofs.Renewed.{Renewing, none-new, one-more, all-new}
 use Rattle.flip.proofs.unasked_tasks.Statement.{statement}
 use Rattle.flip.proofs.unasked_tasks.Tie as tie
 

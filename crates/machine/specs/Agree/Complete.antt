@@ -8,9 +8,9 @@ use lib.ListN.{getD, List·getD-map}
 use lib.Dec.{ltb, leb, eqb}
 use borrow.Author.Tests.{ltb-true, ltb-false, leb-false, eqb-false}
 use Rattle.table.specs.declared.Primary.{Primary}
-use Rattle.table.specs.declared.Then.the-variants.{ToWrite, ToStoreCopy, ToFillCopy, ToPut}
+use Rattle.table.specs.declared.Holding.{Holding}
+use Rattle.table.specs.declared.Holding.the-variants.{Rests, Asks, Free, Job, Claim, Both}
 use Rattle.table.specs.declared.Place.{Place}
-use Rattle.table.specs.declared.Place.the-variants.{Idle, New, Asked, FillWrite, FillCopy, StoreWrite, Meet, StoreCopy, Take, Read, Put, Release, Looking, Placing}
 use Rattle.table.specs.declared.Table.{Table}
 use Rattle.table.specs.declared.Answer.the-variants.{Done, Value, Report}
 use Rattle.table.specs.declared.Outcome.{Outcome}
@@ -28,6 +28,7 @@ use Rattle.machine.specs.Objects.Inv.{Sound, Inv}
 use Rattle.machine.specs.Agree.Encode.{atPrimary, atPlace}
 use Rattle.machine.specs.Agree.Agree.{Held, Agree}
 use Rattle.machine.specs.Agree.Names.{held-of, pa-eqb, pa-zero}
+use Rattle.machine.specs.Agree.Holdings.{atHolding, holding-at}
 use Rattle.machine.specs.Agree.Read.{object-of, plain-word, pointer-word}
 use Rattle.machine.specs.Agree.Gates.{table-gate, pair-gate}
 
@@ -38,27 +39,15 @@ roots-at pa ps r e = ap (λ d. getD (map (atPrimary pa) ps) r (primary d)) (sym 
 
 -- addresses in place of numbers leave a task idle, or not
 place-idle : (pa ra : ℕ → ℕ) (pl : Place) → idleOf (holdingOf (atPlace pa ra pl)) ≡ idleOf (holdingOf pl)
-unfolding holdingOf
-place-idle pa ra Idle = refl
-place-idle pa ra (New r len m) = refl
-place-idle pa ra (Asked r len m) = refl
-place-idle pa ra (FillWrite v) = refl
-place-idle pa ra (FillCopy c) = refl
-place-idle pa ra (StoreWrite v) = refl
-place-idle pa ra (Meet v) = refl
-place-idle pa ra (StoreCopy c) = refl
-place-idle pa ra (Take n) = refl
-place-idle pa ra (Read n x i) = refl
-place-idle pa ra (Put n x i c) = refl
-place-idle pa ra (Release n x i) = refl
-place-idle pa ra (Looking q (ToWrite v)) = refl
-place-idle pa ra (Looking q ToStoreCopy) = refl
-place-idle pa ra (Looking q ToFillCopy) = refl
-place-idle pa ra (Looking q (ToPut n x i)) = refl
-place-idle pa ra (Placing q (ToWrite v)) = refl
-place-idle pa ra (Placing q ToStoreCopy) = refl
-place-idle pa ra (Placing q ToFillCopy) = refl
-place-idle pa ra (Placing q (ToPut n x i)) = refl
+place-idle pa ra pl = ap idleOf (holding-at pa ra pl) ∙ rests (holdingOf pl)
+  where
+    rests : (h : Holding) → idleOf (atHolding pa h) ≡ idleOf h
+    rests Rests = refl
+    rests Asks = refl
+    rests Free = refl
+    rests (Job y j) = refl
+    rests (Claim p) = refl
+    rests (Both p y j) = refl
 
 -- what a call that names two registers or roots answers: no such task (2), no such register (3), not idle (6), or the rest
 abbrev pub ifTwo : Table → ℕ → ℕ → ℕ → Bool → Outcome → Outcome

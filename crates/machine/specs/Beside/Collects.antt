@@ -2,17 +2,14 @@
 use Prim.Native.Nat.{ℕ}
 use mathlib.Core.Path.{_≡_, refl}
 use mathlib.Core.Logic.{_≢_}
-use mathlib.Core.Bool.{Bool, true, false}
 use Rattle.table.specs.declared.Operand.{Operand}
-use Rattle.table.specs.declared.Operand.the-variants.{Plain, Pointer}
 use Rattle.table.specs.declared.Copied.{Copied}
-use Rattle.table.specs.declared.Copied.the-variants.{Same, Renamed}
+use Rattle.table.specs.declared.Primary.{Primary}
 use Rattle.table.specs.declared.Then.{Then}
 use Rattle.table.specs.declared.Then.the-variants.{ToWrite, ToStoreCopy, ToFillCopy, ToPut}
 use Rattle.table.specs.declared.Place.{Place}
 use Rattle.table.specs.declared.Place.the-variants.{Idle, Looking}
 use Rattle.table.specs.declared.Table.{Table}
-use Rattle.machine.specs.Basics.{pick}
 use Rattle.machine.specs.Words.{replica}
 use Rattle.machine.specs.Look.{goOn, lookAhead}
 use Rattle.machine.specs.Tasks.{holdingOf}
@@ -20,10 +17,9 @@ use Rattle.machine.specs.History.{History, withCopies}
 use Rattle.machine.specs.Objects.State.{State, ClaimIn}
 use Rattle.machine.specs.Objects.Counts.{Counts, thenLeft, leftToPay}
 use Rattle.machine.specs.Agree.Agree.{bottom}
-use Rattle.machine.specs.Beside.Stands.{Stands}
+use Rattle.machine.specs.Beside.Stands.{Stands, by-ahead}
 use Rattle.machine.specs.Beside.Collecting.{Collecting}
 use Rattle.machine.specs.Beside.Lives.{lived-same}
-use lib.Dec.{eqb}
 
 -- the same objects copied, the same shapes
 pub collects : {K : ℕ → Type 0} {pa : ℕ → ℕ} {o : State} {t : Table} {h : History} → (c : Collecting K pa o t h) → (o′ : State) (t′ : Table) → o′ .shape ≡ o .shape → o′ .snap ≡ o .snap
@@ -59,22 +55,15 @@ on-free q (ToPut n y i) x h = h
 
 -- and so does what follows a value that is known
 pub ahead-left : (v : Operand) (th : Then) (copy : Copied → Place) → ((c : Copied) → leftToPay (copy c) ≡ thenLeft th) → leftToPay (lookAhead v th copy) ≡ thenLeft th
-ahead-left (Plain w) th copy f = f (Same w)
-ahead-left (Pointer p) th copy f = on (eqb (p .0) 0)
-  where
-    on : (b : Bool) → leftToPay (pick b (copy (Renamed (replica 0))) (Looking p th)) ≡ thenLeft th
-    on true = f (Renamed (replica 0))
-    on false = refl
+ahead-left v th copy f = by-ahead (λ pl. leftToPay pl ≡ thenLeft th) v th copy f (λ p. refl)
 
 pub ahead-free : (v : Operand) (th : Then) (copy : Copied → Place) → ((c : Copied) (x : ℕ) → ClaimIn (holdingOf (copy c)) x → ⊥) → (x : ℕ)
     → ClaimIn (holdingOf (lookAhead v th copy)) x → ⊥
 unfolding holdingOf
-ahead-free (Plain w) th copy f x = f (Same w) x
-ahead-free (Pointer p) th copy f x = on (eqb (p .0) 0) th
+ahead-free v th copy f x = by-ahead (λ pl. ClaimIn (holdingOf pl) x → ⊥) v th copy (λ c. f c x) (λ p. free p th)
   where
-    on : (b : Bool) (th : Then) → ClaimIn (holdingOf (pick b (copy (Renamed (replica 0))) (Looking p th))) x → ⊥
-    on true th = f (Renamed (replica 0)) x
-    on false (ToWrite v) = λ h. h
-    on false ToStoreCopy = λ h. h
-    on false ToFillCopy = λ h. h
-    on false (ToPut n y i) = λ h. h
+    free : (p : Primary) (th : Then) → ClaimIn (holdingOf (Looking p th)) x → ⊥
+    free p (ToWrite v) = λ h. h
+    free p ToStoreCopy = λ h. h
+    free p ToFillCopy = λ h. h
+    free p (ToPut n y i) = λ h. h

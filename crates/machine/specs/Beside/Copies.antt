@@ -4,23 +4,22 @@ use mathlib.Core.Path.{_≡_, refl, ap}
 use mathlib.Core.List.{List}
 use mathlib.Core.Bool.{Bool, true, false}
 use native.Mathlib.Omega.{arith}
-use lib.Dec.{ltb, eqb}
+use lib.Dec.{ltb}
 use borrow.Author.Tests.{lt-leb, ltb-true}
 use Rattle.table.specs.declared.Limits.{Limits}
 use Rattle.table.specs.declared.Primary.{Primary}
 use Rattle.table.specs.declared.Operand.{Operand}
 use Rattle.table.specs.declared.Operand.the-variants.{Plain, Pointer}
 use Rattle.table.specs.declared.Copied.{Copied}
-use Rattle.table.specs.declared.Copied.the-variants.{Renamed}
 use Rattle.table.specs.declared.Then.the-variants.{ToPut}
-use Rattle.table.specs.declared.Place.the-variants.{Read, Put, Release, Looking}
+use Rattle.table.specs.declared.Place.the-variants.{Read, Put, Release}
 use Rattle.table.specs.declared.Deed.the-variants.{Goes}
 use Rattle.table.specs.declared.Answer.the-variants.{Moved}
 use Rattle.table.specs.declared.Task.{Task}
 use Rattle.table.specs.declared.Table.{Table}
 use Rattle.machine.specs.History.{History}
 use Rattle.machine.specs.Basics.{pick}
-use Rattle.machine.specs.Words.{primary, replica, copiedWord}
+use Rattle.machine.specs.Words.{primary, copiedWord}
 use Rattle.machine.specs.Entries.{taskAt, movedTable, out, ends}
 use Rattle.machine.specs.Deeds.{acted}
 use Rattle.machine.specs.Look.{lookAhead}
@@ -40,7 +39,7 @@ use Rattle.machine.specs.Agree.Enter.{moves-agree}
 use Rattle.machine.specs.Agree.Slots.{copies-agree}
 use Rattle.machine.specs.Beside.Still.{DoingAt}
 use Rattle.machine.specs.Beside.Doing.{still-goes}
-use Rattle.machine.specs.Beside.Stands.{stands-ahead}
+use Rattle.machine.specs.Beside.Stands.{by-ahead, stands-ahead}
 use Rattle.machine.specs.Objects.CountLaws.{counts-goes}
 use Rattle.machine.specs.Beside.Collects.{collects, not-idle, ahead-left, ahead-free}
 use Rattle.machine.specs.Beside.Good.{Good, Comes, comes-moved}
@@ -49,21 +48,11 @@ use Rattle.machine.specs.Beside.Glue.{copied-word, at-ahead, look-placed
 -- the job in hand stays, and the store knows no more than that the task is busy
 ahead-jobs : (v : Operand) (n : ℕ) (x : Primary) (k : ℕ) → 1 ≡ jobsIn (holdingOf (lookAhead v (ToPut n x k) (Put n x k)))
 unfolding holdingOf
-ahead-jobs (Plain w) n x k = refl
-ahead-jobs (Pointer p) n x k = on (eqb (p .0) 0)
-  where
-    on : (b : Bool) → 1 ≡ jobsIn (holdingOf (pick b (Put n x k (Renamed (replica 0))) (Looking p (ToPut n x k))))
-    on true = refl
-    on false = refl
+ahead-jobs v n x k = by-ahead (λ pl. 1 ≡ jobsIn (holdingOf pl)) v (ToPut n x k) (Put n x k) (λ c. refl) (λ p. refl)
 
 ahead-doing : (e : Task) (d : Doing) (v : Operand) (n : ℕ) (x : Primary) (k : ℕ) → isResting d ≡ false
     → DoingAt (goes e (lookAhead v (ToPut n x k) (Put n x k))) d (lookAhead v (ToPut n x k) (Put n x k))
-ahead-doing e d (Plain w) n x k h = h
-ahead-doing e d (Pointer p) n x k h = on (eqb (p .0) 0)
-  where
-    on : (b : Bool) → DoingAt (goes e (pick b (Put n x k (Renamed (replica 0))) (Looking p (ToPut n x k)))) d (pick b (Put n x k (Renamed (replica 0))) (Looking p (ToPut n x k)))
-    on true = h
-    on false = h
+ahead-doing e d v n x k h = by-ahead (λ pl. DoingAt (goes e pl) d pl) v (ToPut n x k) (Put n x k) (λ c. h) (λ p. h)
 
 module _ {l : Limits} {w : Store} {hy : History} {t : Table} {ws : List ℕ} (g : Good l w hy t ws) (i : ℕ) (ip : i < t .limits .p) (X : Type 0) (n : ℕ) (x : Primary) (k : ℕ) where
   colours : g .objects .on ≡ true → Colours (g .kept) (g .objects .shape) (g .objects .snap) (g .objects .hd) (g .objects .prim) (g .objects .rep) (g .objects .has) (g .objects .stack)

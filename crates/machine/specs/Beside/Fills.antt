@@ -45,7 +45,7 @@ use Rattle.machine.specs.Beside.Still.{DoingAt, GoesTo, StillTask, Still
 use Rattle.machine.specs.Beside.StillLaws.{still-entry, still-half}
 use Rattle.machine.specs.Beside.StillSteps.{still-filled, still-ended}
 use Rattle.machine.specs.Beside.Doing.{still-goes}
-use Rattle.machine.specs.Beside.Stands.{stands-ahead}
+use Rattle.machine.specs.Beside.Stands.{by-ahead, stands-ahead}
 use Rattle.machine.specs.Objects.CountFills.{counts-half, counts-fills}
 use Rattle.machine.specs.Beside.Collects.{ahead-left, ahead-free}
 use Rattle.machine.specs.Beside.Lives.{lived-shape}
@@ -56,12 +56,7 @@ use Rattle.machine.specs.Beside.Ending.{ended-jobs}
 
 ahead-jobs : (v : Operand) → 0 ≡ jobsIn (holdingOf (lookAhead v ToFillCopy FillCopy))
 unfolding holdingOf
-ahead-jobs (Plain w) = refl
-ahead-jobs (Pointer p) = on (eqb (p .0) 0)
-  where
-    on : (b : Bool) → 0 ≡ jobsIn (holdingOf (pick b (FillCopy (Renamed (replica 0))) (Looking p ToFillCopy)))
-    on true = refl
-    on false = refl
+ahead-jobs v = by-ahead (λ pl. 0 ≡ jobsIn (holdingOf pl)) v ToFillCopy FillCopy (λ c. refl) (λ p. refl)
 
 -- the store knows the value, nil too
 ahead-doing : (e : Task) (d : Doing) (v : Operand) → d ≡ filling (operandWord v)

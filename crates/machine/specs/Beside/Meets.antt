@@ -9,19 +9,17 @@ use borrow.Author.Tests.{eqb-true, eqb-false}
 use Rattle.table.specs.declared.Limits.{Limits}
 use Rattle.table.specs.declared.Primary.{Primary}
 use Rattle.table.specs.declared.Operand.{Operand}
-use Rattle.table.specs.declared.Operand.the-variants.{Plain, Pointer}
-use Rattle.table.specs.declared.Copied.the-variants.{Renamed}
 use Rattle.table.specs.declared.Deed.the-variants.{Goes, Waits}
 use Rattle.table.specs.declared.Storing.the-variants.{Slot}
 use Rattle.table.specs.declared.Then.the-variants.{ToStoreCopy}
-use Rattle.table.specs.declared.Place.the-variants.{Meet, StoreCopy, Take, Looking}
+use Rattle.table.specs.declared.Place.the-variants.{Meet, StoreCopy, Take}
 use Rattle.table.specs.declared.Sought.the-variants.{Claimer, Holder}
 use Rattle.table.specs.declared.Answer.the-variants.{Moved}
 use Rattle.table.specs.declared.Task.{Task}
 use Rattle.table.specs.declared.Table.{Table}
 use Rattle.machine.specs.History.{History}
 use Rattle.machine.specs.Basics.{pick}
-use Rattle.machine.specs.Words.{replica, ifForwarded}
+use Rattle.machine.specs.Words.{ifForwarded}
 use Rattle.machine.specs.Entries.{taskAt, movedTable, out, ends}
 use Rattle.machine.specs.Deeds.{acted}
 use Rattle.machine.specs.Look.{lookAhead}
@@ -42,7 +40,7 @@ use Rattle.machine.specs.Agree.Enter.{moves-agree}
 use Rattle.machine.specs.Agree.Search.{claimer-found, holder-found}
 use Rattle.machine.specs.Beside.Still.{DoingAt}
 use Rattle.machine.specs.Beside.Doing.{still-goes}
-use Rattle.machine.specs.Beside.Stands.{stands-ahead}
+use Rattle.machine.specs.Beside.Stands.{by-ahead, stands-ahead}
 use Rattle.machine.specs.Objects.CountLaws.{counts-goes, counts-pays}
 use Rattle.machine.specs.Beside.Collects.{collects, not-idle, ahead-left, ahead-free}
 use Rattle.machine.specs.Beside.Good.{Good, Comes, comes-moved, comes-wait}
@@ -51,22 +49,11 @@ use Rattle.machine.specs.Beside.Glue.{at-ahead, below, moved-goes, busy-
 -- behind the meet nothing is held, and the store knows no more than that the task is busy
 ahead-jobs : (v : Operand) → 0 ≡ jobsIn (holdingOf (lookAhead v ToStoreCopy StoreCopy))
 unfolding holdingOf
-ahead-jobs (Plain w) = refl
-ahead-jobs (Pointer p) = on (eqb (p .0) 0)
-  where
-    on : (b : Bool) → 0 ≡ jobsIn (holdingOf (pick b (StoreCopy (Renamed (replica 0))) (Looking p ToStoreCopy)))
-    on true = refl
-    on false = refl
+ahead-jobs v = by-ahead (λ pl. 0 ≡ jobsIn (holdingOf pl)) v ToStoreCopy StoreCopy (λ c. refl) (λ p. refl)
 
 ahead-doing : (e : Task) (d : Doing) (v : Operand) → isResting d ≡ false
     → DoingAt (goes e (lookAhead v ToStoreCopy StoreCopy)) d (lookAhead v ToStoreCopy StoreCopy)
-ahead-doing e d (Plain w) h = h
-ahead-doing e d (Pointer p) h = on (eqb (p .0) 0)
-  where
-    on : (b : Bool) → DoingAt (goes e (pick b (StoreCopy (Renamed (replica 0))) (Looking p ToStoreCopy))) d
-        (pick b (StoreCopy (Renamed (replica 0))) (Looking p ToStoreCopy))
-    on true = h
-    on false = h
+ahead-doing e d v h = by-ahead (λ pl. DoingAt (goes e pl) d pl) v ToStoreCopy StoreCopy (λ c. h) (λ p. h)
 
 module _ {l : Limits} {w : Store} {hy : History} {t : Table} {ws : List ℕ} (g : Good l w hy t ws) (i : ℕ) (ip : i < t .limits .p) (x : Primary) (j : ℕ)
     (se : g .objects .tasks i .storing ≡ Slot x j) (X : Type 0) (v : Operand) (pe : g .objects .tasks i .place ≡ Meet v) where

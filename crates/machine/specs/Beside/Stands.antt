@@ -74,10 +74,14 @@ stands-on ToStoreCopy x = tt
 stands-on ToFillCopy x = tt
 stands-on (ToPut n y i) x = tt
 
-pub stands-ahead : (v : Operand) (th : Then) (copy : Copied → Place) → ((c : Copied) → Stands (copy c)) → Stands (lookAhead v th copy)
-stands-ahead (Plain w) th copy f = f (Same w)
-stands-ahead (Pointer p) th copy f = on (eqb (p .0) 0)
+-- a value is looked at or known: what holds of both places holds of the one that comes
+pub by-ahead : (X : Place → Type 0) (v : Operand) (th : Then) (copy : Copied → Place) → ((c : Copied) → X (copy c)) → ((p : Primary) → X (Looking p th)) → X (lookAhead v th copy)
+by-ahead X (Plain w) th copy f g = f (Same w)
+by-ahead X (Pointer p) th copy f g = on (eqb (p .0) 0)
   where
-    on : (b : Bool) → Stands (pick b (copy (Renamed (replica 0))) (Looking p th))
+    on : (b : Bool) → X (pick b (copy (Renamed (replica 0))) (Looking p th))
     on true = f (Renamed (replica 0))
-    on false = tt
+    on false = g p
+
+pub stands-ahead : (v : Operand) (th : Then) (copy : Copied → Place) → ((c : Copied) → Stands (copy c)) → Stands (lookAhead v th copy)
+stands-ahead v th copy f = by-ahead Stands v th copy f (λ p. tt)

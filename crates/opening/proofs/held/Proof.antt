@@ -1,4 +1,4 @@
--- held: the end of the space by end_of, then what tasks::held says; their bounds are the requires.
+-- held: the end of the space by end_of, then what search::held says; their bounds are the requires.
 use borrow.Author.Needs.{needs}
 use Rattle.opening.proofs.held.Statement.{statement}
 use Rattle.opening.proofs.held.Tie as tie

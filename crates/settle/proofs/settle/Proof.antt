@@ -7,38 +7,26 @@ use Rattle.settle.proofs.settle.Tie as tie
 enum-known-d : tie.Need-enum-known-d
 enum-known-d c = search needs
 
-mul-e : tie.Need-mul-e
-mul-e c = search needs
-
-element-copy-out-e : tie.Need-element-copy-out-e
-element-copy-out-e c = search needs
-
-moved-table-requires : tie.Need-moved-table-requires
-moved-table-requires c κs = search needs
+goes-requires : tie.Need-goes-requires
+goes-requires c κs = search needs
 
 enum-known-d-2 : tie.Need-enum-known-d-2
 enum-known-d-2 c = search needs
 
-moved-table-requires-2 : tie.Need-moved-table-requires-2
-moved-table-requires-2 c κs = search needs
+moved-table-requires : tie.Need-moved-table-requires
+moved-table-requires c κs = search needs
 
 enum-known-d-3 : tie.Need-enum-known-d-3
 enum-known-d-3 c = search needs
 
-mul-e-2 : tie.Need-mul-e-2
-mul-e-2 c = search needs
-
-element-copy-out-e-2 : tie.Need-element-copy-out-e-2
-element-copy-out-e-2 c = search needs
-
-finish-requires : tie.Need-finish-requires
-finish-requires c κs = search needs
+ended-requires : tie.Need-ended-requires
+ended-requires c κs = search needs
 
 enum-known-d-4 : tie.Need-enum-known-d-4
 enum-known-d-4 c = search needs
 
-finish-requires-2 : tie.Need-finish-requires-2
-finish-requires-2 c κs = search needs
+finish-requires : tie.Need-finish-requires
+finish-requires c κs = search needs
 
 enum-known-d-5 : tie.Need-enum-known-d-5
 enum-known-d-5 c = search needs
@@ -54,19 +42,19 @@ refused-requires c κs = search needs
 
 returns : tie.Need-returns
 unfolding settleOf
-returns c = rw (c .before .before .before .d .given .1, c .moved-table .ensures)
+returns c = rw (c .before .before .d .given .1, c .goes .ensures)
 
 returns-2 : tie.Need-returns-2
 unfolding settleOf
-returns-2 c = rw (c .before .before .d2 .given .1, c .moved-table2 .ensures)
+returns-2 c = rw (c .before .before .d2 .given .1, c .moved-table .ensures)
 
 returns-3 : tie.Need-returns-3
 unfolding settleOf
-returns-3 c = rw (c .before .before .before .d3 .given .1) (c .finish .ensures)
+returns-3 c = rw (c .before .before .d3 .given .1) (c .ended .ensures)
 
 returns-4 : tie.Need-returns-4
 unfolding settleOf
-returns-4 c = rw (c .before .before .d4 .given .1) (c .finish2 .ensures)
+returns-4 c = rw (c .before .before .d4 .given .1) (c .finish .ensures)
 
 returns-5 : tie.Need-returns-5
 unfolding settleOf
@@ -81,17 +69,13 @@ settle-spec =
     tie.close
     (tie.spec
     enum-known-d
-    mul-e
-    element-copy-out-e
-    moved-table-requires
+    goes-requires
     enum-known-d-2
-    moved-table-requires-2
+    moved-table-requires
     enum-known-d-3
-    mul-e-2
-    element-copy-out-e-2
-    finish-requires
+    ended-requires
     enum-known-d-4
-    finish-requires-2
+    finish-requires
     enum-known-d-5
     wait-requires
     enum-known-d-6

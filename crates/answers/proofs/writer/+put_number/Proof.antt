@@ -1,0 +1,134 @@
+-- Rests on Put: a number of one digit, and one digit behind those of a tenth.
+use native.Mathlib.Omega.{arith}
+use borrow.Author.Needs.{needs}
+use Rattle.answers.proofs.Put.{small-length, more-length, put-small, put-more, wrote-next, wrote-length}
+use Prim.Native.Nat.{ℕ, _<_}
+use borrow.Fn.Kinds.{In}
+use borrow.Fn.PlainCycle.{Measures, is, falls, and}
+use Rattle.answers.proofs.writer.put_number.Reads as put-number
+use Rattle.answers.proofs.writer.put_number.Kinds as put-number-kinds
+use Rattle.answers.proofs.writer.+put_number.Lts-put_number as put-number-lts
+use Rattle.answers.proofs.writer.+put_number.{statement}
+use Rattle.answers.proofs.writer.+put_number.Tie.{close}
+
+abbrev μ-put-number : Measures 1 put-number-kinds.ps ℕ
+μ-put-number κs a = a .0
+
+abbrev put-number-at : ℕ → In 1 put-number-kinds.ps
+put-number-at t =
+    and 1 put-number-kinds.ps (is 1 put-number-kinds.ps μ-put-number t) put-number.Pre
+
+abbrev put-number-below : ℕ → In 1 put-number-kinds.ps
+put-number-below t =
+    and 1 put-number-kinds.ps (falls 1 put-number-kinds.ps _<_ μ-put-number t) put-number.Pre
+
+put-number-cast-out :
+    (t : ℕ) →
+    put-number-lts.Need-cast-out
+    (put-number-below t, put-number.Post)
+    (put-number-at t)
+    put-number.Post
+put-number-cast-out t c = search needs
+
+put-number-add-out :
+    (t : ℕ) →
+    put-number-lts.Need-add-out
+    (put-number-below t, put-number.Post)
+    (put-number-at t)
+    put-number.Post
+put-number-add-out t c = search needs
+
+put-number-slice-write-out : (t : ℕ) → put-number-lts.Need-slice-write-out (
+  put-number-below t,
+  put-number.Post,
+) (put-number-at t) put-number.Post
+put-number-slice-write-out t c = omega (arith, small-length (c .before .before .args .n) (c .if1 .taken))
+
+put-number-add-result : (t : ℕ) → put-number-lts.Need-add-result (
+  put-number-below t,
+  put-number.Post,
+) (put-number-at t) put-number.Post
+put-number-add-result t c = omega (arith, small-length (c .before .before .args .n) (c .if1 .taken))
+
+put-number-same-length : (t : ℕ) → put-number-lts.Need-same-length (
+  put-number-below t,
+  put-number.Post,
+) (put-number-at t) put-number.Post
+put-number-same-length t c = search needs
+
+put-number-returns :
+    (t : ℕ) →
+    put-number-lts.Need-returns
+    (put-number-below t, put-number.Post)
+    (put-number-at t)
+    put-number.Post
+put-number-returns t c = put-small _ _ _ (c .if1 .taken)
+
+put-number-put-number-requires : (t : ℕ) → put-number-lts.Need-put-number-requires (
+  put-number-below t,
+  put-number.Post,
+) (put-number-at t) put-number.Post
+put-number-put-number-requires t c κs = (omega arith, omega (arith, more-length (c .before .before .before .args .n) (c .before .if1 .left)))
+
+put-number-cast-out-2 : (t : ℕ) → put-number-lts.Need-cast-out-2 (
+  put-number-below t,
+  put-number.Post,
+) (put-number-at t) put-number.Post
+put-number-cast-out-2 t c = search needs
+
+put-number-add-out-2 : (t : ℕ) → put-number-lts.Need-add-out-2 (
+  put-number-below t,
+  put-number.Post,
+) (put-number-at t) put-number.Post
+put-number-add-out-2 t c = search needs
+
+put-number-slice-write-out-2 : (t : ℕ) → put-number-lts.Need-slice-write-out-2 (
+  put-number-below t,
+  put-number.Post,
+) (put-number-at t) put-number.Post
+put-number-slice-write-out-2 t c =
+    let a = c .before .before .before .before .before .before .args in
+    let e = c .before .before .put-number .ensures in
+    omega (arith, more-length (a .n) (c .before .before .before .before .if1 .left), wrote-next _ _ _ _ _ e, wrote-length _ _ _ _ _ e)
+
+put-number-add-result-2 : (t : ℕ) → put-number-lts.Need-add-result-2 (
+  put-number-below t,
+  put-number.Post,
+) (put-number-at t) put-number.Post
+put-number-add-result-2 t c =
+    let a = c .before .before .before .before .before .before .args in
+    let e = c .before .before .put-number .ensures in
+    omega (arith, more-length (a .n) (c .before .before .before .before .if1 .left), wrote-next _ _ _ _ _ e, wrote-length _ _ _ _ _ e)
+
+put-number-same-length-2 : (t : ℕ) → put-number-lts.Need-same-length-2 (
+  put-number-below t,
+  put-number.Post,
+) (put-number-at t) put-number.Post
+put-number-same-length-2 t c = search needs
+
+put-number-returns-2 : (t : ℕ) → put-number-lts.Need-returns-2 (
+  put-number-below t,
+  put-number.Post,
+) (put-number-at t) put-number.Post
+put-number-returns-2 t c = put-more _ _ _ _ _ (c .before .before .before .before .if1 .left) (c .before .before .put-number .ensures)
+
+pub +put-number-spec : {M : Type 1} → statement M
++put-number-spec = close μ-put-number λ t. put-number-lts.spec (
+  put-number-below t,
+  put-number.Post,
+)
+    (put-number-at t)
+    put-number.Post
+    (put-number-cast-out t)
+    (put-number-add-out t)
+    (put-number-slice-write-out t)
+    (put-number-add-result t)
+    (put-number-same-length t)
+    (put-number-returns t)
+    (put-number-put-number-requires t)
+    (put-number-cast-out-2 t)
+    (put-number-add-out-2 t)
+    (put-number-slice-write-out-2 t)
+    (put-number-add-result-2 t)
+    (put-number-same-length-2 t)
+    (put-number-returns-2 t)

@@ -1,6 +1,6 @@
 // The lines of a block, each by its call on the heap. The words in use are the first 2+2H of the largest buffer.
-// The loop holds the latest outcome: each call takes its table and gives the next. What lies between them copies the table
-// once more, so only seldom calls go through a function.
+// Each line's call stands in the loop, and the table goes from a call's outcome straight back into one local: whatever
+// lies between copies the table once more a line.
 use crate::lines::Lines;
 use crate::lines::State;
 use heap::Answer;
@@ -26,18 +26,6 @@ fn step(t: Table, words: &mut [u32], task: u32) -> Outcome
     heap::step(t, &mut words[..n], task)
 }
 
-// The calls that a script has seldom, and the report. The others stand in the loop.
-fn seldom(t: Table, words: &[u32], said: Said) -> Outcome {
-    match said {
-        Said::New(task, r, len, m) => heap::begin_new(t, words, task, r, len, m),
-        Said::Store(task, object, slot, w) => heap::begin_store(t, words, task, object, slot, w),
-        Said::Move(task, to, reg) => heap::move_register(t, words, task, to, reg),
-        Said::Clear(task, r) => heap::clear_register(t, words, task, r),
-        Said::Put(task, root, r) => heap::put_root(t, words, task, root, r),
-        _ => heap::report(t, words),
-    }
-}
-
 // What a line says; one that outgrew the buffer cannot be read.
 fn said_by(buf: &[u8], from: usize, to: usize, skip: bool) -> Said
     requires { ⌜ (from ≤ to) × (to ≤ length (now buf)) ⌝ }
@@ -56,15 +44,10 @@ pub fn all_lines(words: &mut [u32], buf: &[u8], n: usize, out: &mut [u8], s: Sta
     let mut from: usize = 0;
     let mut used = s.used;
     let mut skip = s.skip;
-    let first = s.table;
-    let mut o = Outcome {
-        table: first,
-        answer: Answer::Done,
-    };
+    let mut t = s.table;
     while from < n {
         let e = blocks::line_end(buf, from, n);
         if n <= e {
-            let t = o.table;
             return Lines {
                 good: true,
                 from: from,
@@ -76,7 +59,6 @@ pub fn all_lines(words: &mut [u32], buf: &[u8], n: usize, out: &mut [u8], s: Sta
         let place = blocks::room_in(out, used);
         let at = place.at;
         if !place.good {
-            let t = o.table;
             return Lines {
                 good: false,
                 from: from,
@@ -86,6 +68,8 @@ pub fn all_lines(words: &mut [u32], buf: &[u8], n: usize, out: &mut [u8], s: Sta
             };
         }
         let said = said_by(buf, from, e, skip);
+        let l = t.limits;
+        let size = blocks::size_of(l.h);
         skip = false;
         from = e + 1;
         if let Said::Unreadable = said {
@@ -93,62 +77,105 @@ pub fn all_lines(words: &mut [u32], buf: &[u8], n: usize, out: &mut [u8], s: Sta
             continue;
         }
         if let Said::Setup(p, longest, h, k) = said {
-            let t = o.table;
-            o = setup(t, words, p, longest, h, k);
+            let o = setup(t, words, p, longest, h, k);
             let answer = o.answer;
+            let next = o.table;
+            t = next;
             used = answers::write_answer(answer, out, at);
             continue;
         }
         if let Said::Step(task) = said {
-            let t = o.table;
-            o = step(t, words, task);
+            let o = step(t, words, task);
             let answer = o.answer;
+            let next = o.table;
+            t = next;
             used = answers::write_answer(answer, out, at);
             continue;
         }
-        let u = o.table;
-        let l = u.limits;
-        let size = blocks::size_of(l.h);
         let ws = &words[..size];
+        let mut answer = Answer::Done;
         match said {
+            Said::New(task, r, len, m) => {
+                let o = heap::begin_new(t, ws, task, r, len, m);
+                let next = o.table;
+                t = next;
+                answer = o.answer;
+            }
             Said::Fill(task, w) => {
-                let t = o.table;
-                o = heap::begin_fill(t, ws, task, w);
+                let o = heap::begin_fill(t, ws, task, w);
+                let next = o.table;
+                t = next;
+                answer = o.answer;
             }
             Said::FillPointer(task, r) => {
-                let t = o.table;
-                o = heap::begin_fill_pointer(t, ws, task, r);
+                let o = heap::begin_fill_pointer(t, ws, task, r);
+                let next = o.table;
+                t = next;
+                answer = o.answer;
             }
             Said::Load(task, to, reg, slot) => {
-                let t = o.table;
-                o = heap::load(t, ws, task, to, reg, slot);
+                let o = heap::load(t, ws, task, to, reg, slot);
+                let next = o.table;
+                t = next;
+                answer = o.answer;
+            }
+            Said::Store(task, object, slot, w) => {
+                let o = heap::begin_store(t, ws, task, object, slot, w);
+                let next = o.table;
+                t = next;
+                answer = o.answer;
             }
             Said::StorePointer(task, object, slot, r) => {
-                let t = o.table;
-                o = heap::begin_store_pointer(t, ws, task, object, slot, r);
+                let o = heap::begin_store_pointer(t, ws, task, object, slot, r);
+                let next = o.table;
+                t = next;
+                answer = o.answer;
+            }
+            Said::Move(task, to, reg) => {
+                let o = heap::move_register(t, ws, task, to, reg);
+                let next = o.table;
+                t = next;
+                answer = o.answer;
+            }
+            Said::Clear(task, r) => {
+                let o = heap::clear_register(t, ws, task, r);
+                let next = o.table;
+                t = next;
+                answer = o.answer;
             }
             Said::Same(task, a, b) => {
-                let t = o.table;
-                o = heap::same(t, ws, task, a, b);
+                let o = heap::same(t, ws, task, a, b);
+                let next = o.table;
+                t = next;
+                answer = o.answer;
+            }
+            Said::Put(task, root, r) => {
+                let o = heap::put_root(t, ws, task, root, r);
+                let next = o.table;
+                t = next;
+                answer = o.answer;
             }
             Said::Get(task, r, root) => {
-                let t = o.table;
-                o = heap::get_root(t, ws, task, r, root);
+                let o = heap::get_root(t, ws, task, r, root);
+                let next = o.table;
+                t = next;
+                answer = o.answer;
             }
-            _ => {
-                let t = o.table;
-                o = seldom(t, ws, said);
+            Said::Report => {
+                let o = heap::report(t, ws);
+                let next = o.table;
+                t = next;
+                answer = o.answer;
             }
+            _ => {}
         }
-        let answer = o.answer;
         used = answers::write_answer(answer, out, at);
     }
-    let last = o.table;
     Lines {
         good: true,
         from: from,
         used: used,
         skip: skip,
-        table: last,
+        table: t,
     }
 }

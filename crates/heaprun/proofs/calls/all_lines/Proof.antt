@@ -9,10 +9,10 @@ use Rattle.heaprun.proofs.calls.all_lines.Statement.{statement}
 use Rattle.heaprun.proofs.calls.all_lines.Tie as tie
 
 abbrev Inv-loop : tie.InvT-loop
-Inv-loop words₀ buf n out₀ from₀ used₀ skip₀ o₀ words out from used skip o = (from ≤ n) × (used ≤ length out) × (length out ≡ length out₀) × (length words ≡ length words₀)
+Inv-loop words₀ buf n out₀ from₀ used₀ skip₀ t₀ words out from used skip t = (from ≤ n) × (used ≤ length out) × (length out ≡ length out₀) × (length words ≡ length words₀)
 
 abbrev μ-loop : tie.MeasureT-loop
-μ-loop words₀ buf n out₀ from₀ used₀ skip₀ o₀ words out from used skip o = n - from
+μ-loop words₀ buf n out₀ from₀ used₀ skip₀ t₀ words out from used skip t = n - from
 
 loop-holds : tie.Need-loop-holds Inv-loop μ-loop
 loop-holds c = search needs
@@ -44,6 +44,9 @@ returns-2 c = search needs
 said-by-requires : tie.Need-said-by-requires Inv-loop μ-loop
 said-by-requires c κs = search needs
 
+size-of-requires : tie.Need-size-of-requires Inv-loop μ-loop
+size-of-requires c κs = search needs
+
 add-from : tie.Need-add-from Inv-loop μ-loop
 add-from c = search needs
 
@@ -69,14 +72,14 @@ write-answer-requires : tie.Need-write-answer-requires Inv-loop μ-loop
 write-answer-requires c κs = search needs
 
 loop-less-2 : tie.Need-loop-less-2 Inv-loop μ-loop
-loop-less-2 c = omega (arith, c .before .before .before .before .before .before .before .before .before .before .before .before .before .before .before .before .before .before .before .line-end .ensures .0, c .before .before .before .before .before .before .before .before .before .before .before .before .before .before .before .before .before .before .if1 .left, c .before .before .before .before .before .before .before .before .before .before .before .before .before .before .before .before .before .before .before .before .loop-test .taken)
+loop-less-2 c = omega (arith, c .before .before .before .before .before .before .before .before .before .before .before .before .before .before .before .before .before .before .before .before .before .line-end .ensures .0, c .before .before .before .before .before .before .before .before .before .before .before .before .before .before .before .before .before .before .before .before .if1 .left, c .before .before .before .before .before .before .before .before .before .before .before .before .before .before .before .before .before .before .before .before .before .before .loop-test .taken)
 
 loop-again-2 : tie.Need-loop-again-2 Inv-loop μ-loop
 loop-again-2 c = (
-  omega (arith, c .before .before .before .before .before .before .before .before .before .before .before .before .before .before .before .before .before .before .if1 .left),
-  omega (arith, c .before .before .write-answer .ensures .1, c .before .before .before .before .before .before .before .before .before .before .before .before .before .before .before .before .room-in .ensures, c .before .before .write-answer .kept .1 .0),
-  c .before .before .write-answer .kept .1 .0 ∙ c .before .before .before .before .before .before .before .before .before .before .before .before .before .before .before .before .before .before .before .before .before .loop .inv .2,
-  c .before .before .before .before .before .before .setup .kept .1 .0 ∙ c .before .before .before .before .before .before .before .before .before .before .before .before .before .before .before .before .before .before .before .before .before .loop .inv .3,
+  omega (arith, c .before .before .before .before .before .before .before .before .before .before .before .before .before .before .before .before .before .before .before .before .if1 .left),
+  omega (arith, c .before .before .write-answer .ensures .1, c .before .before .before .before .before .before .before .before .before .before .before .before .before .before .before .before .before .before .room-in .ensures, c .before .before .write-answer .kept .1 .0),
+  c .before .before .write-answer .kept .1 .0 ∙ c .before .before .before .before .before .before .before .before .before .before .before .before .before .before .before .before .before .before .before .before .before .before .before .loop .inv .2,
+  c .before .before .before .before .before .before .before .setup .kept .1 .0 ∙ c .before .before .before .before .before .before .before .before .before .before .before .before .before .before .before .before .before .before .before .before .before .before .before .loop .inv .3,
 )
 
 enum-known-said-2 : tie.Need-enum-known-said-2 Inv-loop μ-loop
@@ -89,78 +92,108 @@ write-answer-requires-2 : tie.Need-write-answer-requires-2 Inv-loop μ-loop
 write-answer-requires-2 c κs = search needs
 
 loop-less-3 : tie.Need-loop-less-3 Inv-loop μ-loop
-loop-less-3 c = omega (arith, c .before .before .before .before .before .before .before .before .before .before .before .before .before .before .before .before .before .before .before .before .line-end .ensures .0, c .before .before .before .before .before .before .before .before .before .before .before .before .before .before .before .before .before .before .before .if1 .left, c .before .before .before .before .before .before .before .before .before .before .before .before .before .before .before .before .before .before .before .before .before .loop-test .taken)
+loop-less-3 c = omega (arith, c .before .before .before .before .before .before .before .before .before .before .before .before .before .before .before .before .before .before .before .before .before .before .line-end .ensures .0, c .before .before .before .before .before .before .before .before .before .before .before .before .before .before .before .before .before .before .before .before .before .if1 .left, c .before .before .before .before .before .before .before .before .before .before .before .before .before .before .before .before .before .before .before .before .before .before .before .loop-test .taken)
 
 loop-again-3 : tie.Need-loop-again-3 Inv-loop μ-loop
 loop-again-3 c = (
-  omega (arith, c .before .before .before .before .before .before .before .before .before .before .before .before .before .before .before .before .before .before .before .if1 .left),
-  omega (arith, c .before .before .write-answer2 .ensures .1, c .before .before .before .before .before .before .before .before .before .before .before .before .before .before .before .before .before .room-in .ensures, c .before .before .write-answer2 .kept .1 .0),
-  c .before .before .write-answer2 .kept .1 .0 ∙ c .before .before .before .before .before .before .before .before .before .before .before .before .before .before .before .before .before .before .before .before .before .before .loop .inv .2,
-  c .before .before .before .before .before .before .step .kept .1 .0 ∙ c .before .before .before .before .before .before .before .before .before .before .before .before .before .before .before .before .before .before .before .before .before .before .loop .inv .3,
+  omega (arith, c .before .before .before .before .before .before .before .before .before .before .before .before .before .before .before .before .before .before .before .before .before .if1 .left),
+  omega (arith, c .before .before .write-answer2 .ensures .1, c .before .before .before .before .before .before .before .before .before .before .before .before .before .before .before .before .before .before .before .room-in .ensures, c .before .before .write-answer2 .kept .1 .0),
+  c .before .before .write-answer2 .kept .1 .0 ∙ c .before .before .before .before .before .before .before .before .before .before .before .before .before .before .before .before .before .before .before .before .before .before .before .before .loop .inv .2,
+  c .before .before .before .before .before .before .before .step .kept .1 .0 ∙ c .before .before .before .before .before .before .before .before .before .before .before .before .before .before .before .before .before .before .before .before .before .before .before .before .loop .inv .3,
 )
-
-size-of-requires : tie.Need-size-of-requires Inv-loop μ-loop
-size-of-requires c κs = search needs
 
 slice-reshare-prefix-ws : tie.Need-slice-reshare-prefix-ws Inv-loop μ-loop
 slice-reshare-prefix-ws c = search needs
 
 slice-aggregate-ws : tie.Need-slice-aggregate-ws Inv-loop μ-loop
 slice-aggregate-ws c =
-    let h : c .before .size-of .result ≤ length (c .before .before .before .before .before .before .before .before .before .before .before .before .before .before .before .loop .words) = omega (arith, c .before .size-of .ensures, c .before .before .before .before .before .before .before .before .before .before .before .before .before .before .before .loop .inv .3, c .before .before .before .before .before .before .before .before .before .before .before .before .before .before .before .before .before .before .before .before .pre .0) in
+    let h : c .before .before .before .before .size-of .result ≤ length (c .before .before .before .before .before .before .before .before .before .before .before .before .before .before .loop .words) = omega (arith, c .before .before .before .before .size-of .ensures, c .before .before .before .before .before .before .before .before .before .before .before .before .before .before .loop .inv .3, c .before .before .before .before .before .before .before .before .before .before .before .before .before .before .before .before .before .before .before .pre .0) in
     simp (length-take-le, h)
 
 enum-known-said-3 : tie.Need-enum-known-said-3 Inv-loop μ-loop
 enum-known-said-3 c = search needs
 
-begin-fill-requires : tie.Need-begin-fill-requires Inv-loop μ-loop
-begin-fill-requires c κs = search needs
+begin-new-requires : tie.Need-begin-new-requires Inv-loop μ-loop
+begin-new-requires c κs = search needs
 
 enum-known-said-4 : tie.Need-enum-known-said-4 Inv-loop μ-loop
 enum-known-said-4 c = search needs
 
-begin-fill-pointer-requires : tie.Need-begin-fill-pointer-requires Inv-loop μ-loop
-begin-fill-pointer-requires c κs = search needs
+begin-fill-requires : tie.Need-begin-fill-requires Inv-loop μ-loop
+begin-fill-requires c κs = search needs
 
 enum-known-said-5 : tie.Need-enum-known-said-5 Inv-loop μ-loop
 enum-known-said-5 c = search needs
 
-load-requires : tie.Need-load-requires Inv-loop μ-loop
-load-requires c κs = search needs
+begin-fill-pointer-requires : tie.Need-begin-fill-pointer-requires Inv-loop μ-loop
+begin-fill-pointer-requires c κs = search needs
 
 enum-known-said-6 : tie.Need-enum-known-said-6 Inv-loop μ-loop
 enum-known-said-6 c = search needs
 
-begin-store-pointer-requires : tie.Need-begin-store-pointer-requires Inv-loop μ-loop
-begin-store-pointer-requires c κs = search needs
+load-requires : tie.Need-load-requires Inv-loop μ-loop
+load-requires c κs = search needs
 
 enum-known-said-7 : tie.Need-enum-known-said-7 Inv-loop μ-loop
 enum-known-said-7 c = search needs
 
-same-requires : tie.Need-same-requires Inv-loop μ-loop
-same-requires c κs = search needs
+begin-store-requires : tie.Need-begin-store-requires Inv-loop μ-loop
+begin-store-requires c κs = search needs
 
 enum-known-said-8 : tie.Need-enum-known-said-8 Inv-loop μ-loop
 enum-known-said-8 c = search needs
 
+begin-store-pointer-requires : tie.Need-begin-store-pointer-requires Inv-loop μ-loop
+begin-store-pointer-requires c κs = search needs
+
+enum-known-said-9 : tie.Need-enum-known-said-9 Inv-loop μ-loop
+enum-known-said-9 c = search needs
+
+move-register-requires : tie.Need-move-register-requires Inv-loop μ-loop
+move-register-requires c κs = search needs
+
+enum-known-said-10 : tie.Need-enum-known-said-10 Inv-loop μ-loop
+enum-known-said-10 c = search needs
+
+clear-register-requires : tie.Need-clear-register-requires Inv-loop μ-loop
+clear-register-requires c κs = search needs
+
+enum-known-said-11 : tie.Need-enum-known-said-11 Inv-loop μ-loop
+enum-known-said-11 c = search needs
+
+same-requires : tie.Need-same-requires Inv-loop μ-loop
+same-requires c κs = search needs
+
+enum-known-said-12 : tie.Need-enum-known-said-12 Inv-loop μ-loop
+enum-known-said-12 c = search needs
+
+put-root-requires : tie.Need-put-root-requires Inv-loop μ-loop
+put-root-requires c κs = search needs
+
+enum-known-said-13 : tie.Need-enum-known-said-13 Inv-loop μ-loop
+enum-known-said-13 c = search needs
+
 get-root-requires : tie.Need-get-root-requires Inv-loop μ-loop
 get-root-requires c κs = search needs
 
-seldom-requires : tie.Need-seldom-requires Inv-loop μ-loop
-seldom-requires c κs = search needs
+enum-told-2 : tie.Need-enum-told-2 Inv-loop μ-loop
+enum-told-2 c = search needs
+
+report-requires : tie.Need-report-requires Inv-loop μ-loop
+report-requires c κs = search needs
 
 write-answer-requires-3 : tie.Need-write-answer-requires-3 Inv-loop μ-loop
 write-answer-requires-3 c κs = search needs
 
 loop-less-4 : tie.Need-loop-less-4 Inv-loop μ-loop
-loop-less-4 c = omega (arith, c .before .before .before .before .before .before .before .before .before .before .before .before .before .before .before .before .before .before .line-end .ensures .0, c .before .before .before .before .before .before .before .before .before .before .before .before .before .before .before .before .before .if1 .left, c .before .before .before .before .before .before .before .before .before .before .before .before .before .before .before .before .before .before .before .loop-test .taken)
+loop-less-4 c = omega (arith, c .before .before .before .before .before .before .before .before .before .before .before .before .before .before .before .before .before .line-end .ensures .0, c .before .before .before .before .before .before .before .before .before .before .before .before .before .before .before .before .if1 .left, c .before .before .before .before .before .before .before .before .before .before .before .before .before .before .before .before .before .before .loop-test .taken)
 
 loop-again-4 : tie.Need-loop-again-4 Inv-loop μ-loop
 loop-again-4 c = (
-  omega (arith, c .before .before .before .before .before .before .before .before .before .before .before .before .before .before .before .before .before .if1 .left),
-  omega (arith, c .before .before .write-answer3 .ensures .1, c .before .before .before .before .before .before .before .before .before .before .before .before .before .before .before .room-in .ensures, c .before .before .write-answer3 .kept .1 .0),
-  c .before .before .write-answer3 .kept .1 .0 ∙ c .before .before .before .before .before .before .before .before .before .before .before .before .before .before .before .before .before .before .before .before .loop .inv .2,
-  c .before .before .before .before .before .before .before .before .before .before .before .before .before .before .before .before .before .before .before .before .loop .inv .3,
+  omega (arith, c .before .before .before .before .before .before .before .before .before .before .before .before .before .before .before .before .if1 .left),
+  omega (arith, c .before .before .write-answer3 .ensures .1, c .before .before .before .before .before .before .before .before .before .before .before .before .before .before .room-in .ensures, c .before .before .write-answer3 .kept .1 .0),
+  c .before .before .write-answer3 .kept .1 .0 ∙ c .before .before .before .before .before .before .before .before .before .before .before .before .before .before .before .before .before .before .before .loop .inv .2,
+  c .before .before .before .before .before .before .before .before .before .before .before .before .before .before .before .before .before .before .before .loop .inv .3,
 )
 
 same-length-5 : tie.Need-same-length-5 Inv-loop μ-loop
@@ -188,6 +221,7 @@ all-lines-spec =
     same-length-4
     returns-2
     said-by-requires
+    size-of-requires
     add-from
     enum-told
     write-unreadable-requires
@@ -203,22 +237,32 @@ all-lines-spec =
     write-answer-requires-2
     loop-less-3
     loop-again-3
-    size-of-requires
     slice-reshare-prefix-ws
     slice-aggregate-ws
     enum-known-said-3
-    begin-fill-requires
+    begin-new-requires
     enum-known-said-4
-    begin-fill-pointer-requires
+    begin-fill-requires
     enum-known-said-5
-    load-requires
+    begin-fill-pointer-requires
     enum-known-said-6
-    begin-store-pointer-requires
+    load-requires
     enum-known-said-7
-    same-requires
+    begin-store-requires
     enum-known-said-8
+    begin-store-pointer-requires
+    enum-known-said-9
+    move-register-requires
+    enum-known-said-10
+    clear-register-requires
+    enum-known-said-11
+    same-requires
+    enum-known-said-12
+    put-root-requires
+    enum-known-said-13
     get-root-requires
-    seldom-requires
+    enum-told-2
+    report-requires
     write-answer-requires-3
     loop-less-4
     loop-again-4

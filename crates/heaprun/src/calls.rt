@@ -26,6 +26,18 @@ fn step(t: Table, words: &mut [u32], task: u32) -> Outcome
     heap::step(t, &mut words[..n], task)
 }
 
+// The calls that a script has seldom, and the report. The others stand in the loop.
+fn seldom(t: Table, words: &[u32], said: Said) -> Outcome {
+    match said {
+        Said::New(task, r, len, m) => heap::begin_new(t, words, task, r, len, m),
+        Said::Store(task, object, slot, w) => heap::begin_store(t, words, task, object, slot, w),
+        Said::Move(task, to, reg) => heap::move_register(t, words, task, to, reg),
+        Said::Clear(task, r) => heap::clear_register(t, words, task, r),
+        Said::Put(task, root, r) => heap::put_root(t, words, task, root, r),
+        _ => heap::report(t, words),
+    }
+}
+
 // What a line says; one that outgrew the buffer cannot be read.
 fn said_by(buf: &[u8], from: usize, to: usize, skip: bool) -> Said
     requires { ⌜ (from ≤ to) × (to ≤ length (now buf)) ⌝ }
@@ -95,12 +107,6 @@ pub fn all_lines(words: &mut [u32], buf: &[u8], n: usize, out: &mut [u8], s: Sta
         let ws = &words[..size];
         let mut answer = Answer::Done;
         match said {
-            Said::New(task, r, len, m) => {
-                let o = heap::begin_new(t, ws, task, r, len, m);
-                let next = o.table;
-                t = next;
-                answer = o.answer;
-            }
             Said::Fill(task, w) => {
                 let o = heap::begin_fill(t, ws, task, w);
                 let next = o.table;
@@ -119,26 +125,8 @@ pub fn all_lines(words: &mut [u32], buf: &[u8], n: usize, out: &mut [u8], s: Sta
                 t = next;
                 answer = o.answer;
             }
-            Said::Store(task, object, slot, w) => {
-                let o = heap::begin_store(t, ws, task, object, slot, w);
-                let next = o.table;
-                t = next;
-                answer = o.answer;
-            }
             Said::StorePointer(task, object, slot, r) => {
                 let o = heap::begin_store_pointer(t, ws, task, object, slot, r);
-                let next = o.table;
-                t = next;
-                answer = o.answer;
-            }
-            Said::Move(task, to, reg) => {
-                let o = heap::move_register(t, ws, task, to, reg);
-                let next = o.table;
-                t = next;
-                answer = o.answer;
-            }
-            Said::Clear(task, r) => {
-                let o = heap::clear_register(t, ws, task, r);
                 let next = o.table;
                 t = next;
                 answer = o.answer;
@@ -149,25 +137,18 @@ pub fn all_lines(words: &mut [u32], buf: &[u8], n: usize, out: &mut [u8], s: Sta
                 t = next;
                 answer = o.answer;
             }
-            Said::Put(task, root, r) => {
-                let o = heap::put_root(t, ws, task, root, r);
-                let next = o.table;
-                t = next;
-                answer = o.answer;
-            }
             Said::Get(task, r, root) => {
                 let o = heap::get_root(t, ws, task, r, root);
                 let next = o.table;
                 t = next;
                 answer = o.answer;
             }
-            Said::Report => {
-                let o = heap::report(t, ws);
+            _ => {
+                let o = seldom(t, ws, said);
                 let next = o.table;
                 t = next;
                 answer = o.answer;
             }
-            _ => {}
         }
         used = answers::write_answer(answer, out, at);
     }

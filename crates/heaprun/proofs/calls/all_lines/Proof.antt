@@ -113,74 +113,41 @@ slice-aggregate-ws c =
 enum-known-said-3 : tie.Need-enum-known-said-3 Inv-loop μ-loop
 enum-known-said-3 c = search needs
 
-begin-new-requires : tie.Need-begin-new-requires Inv-loop μ-loop
-begin-new-requires c κs = search needs
+begin-fill-requires : tie.Need-begin-fill-requires Inv-loop μ-loop
+begin-fill-requires c κs = search needs
 
 enum-known-said-4 : tie.Need-enum-known-said-4 Inv-loop μ-loop
 enum-known-said-4 c = search needs
 
-begin-fill-requires : tie.Need-begin-fill-requires Inv-loop μ-loop
-begin-fill-requires c κs = search needs
+begin-fill-pointer-requires : tie.Need-begin-fill-pointer-requires Inv-loop μ-loop
+begin-fill-pointer-requires c κs = search needs
 
 enum-known-said-5 : tie.Need-enum-known-said-5 Inv-loop μ-loop
 enum-known-said-5 c = search needs
 
-begin-fill-pointer-requires : tie.Need-begin-fill-pointer-requires Inv-loop μ-loop
-begin-fill-pointer-requires c κs = search needs
+load-requires : tie.Need-load-requires Inv-loop μ-loop
+load-requires c κs = search needs
 
 enum-known-said-6 : tie.Need-enum-known-said-6 Inv-loop μ-loop
 enum-known-said-6 c = search needs
 
-load-requires : tie.Need-load-requires Inv-loop μ-loop
-load-requires c κs = search needs
+begin-store-pointer-requires : tie.Need-begin-store-pointer-requires Inv-loop μ-loop
+begin-store-pointer-requires c κs = search needs
 
 enum-known-said-7 : tie.Need-enum-known-said-7 Inv-loop μ-loop
 enum-known-said-7 c = search needs
 
-begin-store-requires : tie.Need-begin-store-requires Inv-loop μ-loop
-begin-store-requires c κs = search needs
+same-requires : tie.Need-same-requires Inv-loop μ-loop
+same-requires c κs = search needs
 
 enum-known-said-8 : tie.Need-enum-known-said-8 Inv-loop μ-loop
 enum-known-said-8 c = search needs
 
-begin-store-pointer-requires : tie.Need-begin-store-pointer-requires Inv-loop μ-loop
-begin-store-pointer-requires c κs = search needs
-
-enum-known-said-9 : tie.Need-enum-known-said-9 Inv-loop μ-loop
-enum-known-said-9 c = search needs
-
-move-register-requires : tie.Need-move-register-requires Inv-loop μ-loop
-move-register-requires c κs = search needs
-
-enum-known-said-10 : tie.Need-enum-known-said-10 Inv-loop μ-loop
-enum-known-said-10 c = search needs
-
-clear-register-requires : tie.Need-clear-register-requires Inv-loop μ-loop
-clear-register-requires c κs = search needs
-
-enum-known-said-11 : tie.Need-enum-known-said-11 Inv-loop μ-loop
-enum-known-said-11 c = search needs
-
-same-requires : tie.Need-same-requires Inv-loop μ-loop
-same-requires c κs = search needs
-
-enum-known-said-12 : tie.Need-enum-known-said-12 Inv-loop μ-loop
-enum-known-said-12 c = search needs
-
-put-root-requires : tie.Need-put-root-requires Inv-loop μ-loop
-put-root-requires c κs = search needs
-
-enum-known-said-13 : tie.Need-enum-known-said-13 Inv-loop μ-loop
-enum-known-said-13 c = search needs
-
 get-root-requires : tie.Need-get-root-requires Inv-loop μ-loop
 get-root-requires c κs = search needs
 
-enum-told-2 : tie.Need-enum-told-2 Inv-loop μ-loop
-enum-told-2 c = search needs
-
-report-requires : tie.Need-report-requires Inv-loop μ-loop
-report-requires c κs = search needs
+seldom-requires : tie.Need-seldom-requires Inv-loop μ-loop
+seldom-requires c κs = search needs
 
 write-answer-requires-3 : tie.Need-write-answer-requires-3 Inv-loop μ-loop
 write-answer-requires-3 c κs = search needs
@@ -240,29 +207,18 @@ all-lines-spec =
     slice-reshare-prefix-ws
     slice-aggregate-ws
     enum-known-said-3
-    begin-new-requires
-    enum-known-said-4
     begin-fill-requires
-    enum-known-said-5
+    enum-known-said-4
     begin-fill-pointer-requires
-    enum-known-said-6
+    enum-known-said-5
     load-requires
-    enum-known-said-7
-    begin-store-requires
-    enum-known-said-8
+    enum-known-said-6
     begin-store-pointer-requires
-    enum-known-said-9
-    move-register-requires
-    enum-known-said-10
-    clear-register-requires
-    enum-known-said-11
+    enum-known-said-7
     same-requires
-    enum-known-said-12
-    put-root-requires
-    enum-known-said-13
+    enum-known-said-8
     get-root-requires
-    enum-told-2
-    report-requires
+    seldom-requires
     write-answer-requires-3
     loop-less-4
     loop-again-4

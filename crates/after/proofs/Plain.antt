@@ -12,7 +12,7 @@ use Rattle.table.specs.declared.Deed.the-variants.{Goes, GoesWith, Ends, EndsWi
 use Rattle.table.specs.declared.Answer.{Answer}
 use Rattle.machine.specs.Basics.{pick}
 use Rattle.machine.specs.Words.{endOf}
-use Rattle.machine.specs.Entries.{taskAt, movedTable, out, ends}
+use Rattle.machine.specs.Entries.{taskAt, movedTable, out, ends, entered}
 use Rattle.machine.specs.Entries.{Ends as Ended}
 use Rattle.machine.specs.Tasks.{greyOf}
 use Rattle.machine.specs.Switch.{switchDue, endedEntry, finishOf}
@@ -21,7 +21,7 @@ use Rattle.new.specs.declared.Act.{Act}
 use Rattle.new.specs.declared.Act.the-variants.{Does, Asks, Denied, Drained}
 use Rattle.new.specs.Acts.{settleAct}
 use Rattle.after.specs.declared.After.{After}
-use Rattle.after.specs.Left.{quietOf, afterDeed, afterOf, entered}
+use Rattle.after.specs.Left.{quietOf, afterDeed, afterOf}
 
 -- what is not quiet brings no switch-over, whatever the tasks hold
 pub unquiet : (on a b c d : Bool) → not (pick on (pick a false (pick b false true)) false) ≡ true → pick on (pick (pick a true (pick b true c)) false d) false ≡ false
@@ -31,14 +31,14 @@ unquiet true false true c d h = refl
 unquiet true false false c d h = absurd (false≢true h)
 
 -- so an instruction that then ends only ends
-pub ends-plainly : (t : Table) (ws : List ℕ) (i : ℕ) (m : Marks) (pending : Pending) (x : Answer) → not (quietOf (t .on) m (endOf (t .upper) (t .limits .h))) ≡ true → finishOf t ws i m pending x ≡ ends (out (entered t i m (endedEntry (taskAt t i .regs) pending)) x) ws
+pub ends-plainly : (t : Table) (ws : List ℕ) (i : ℕ) (m : Marks) (pending : Pending) (x : Answer) → not (quietOf (t .on) m (endOf (t .upper) (t .limits .h))) ≡ true → finishOf t ws i m pending x ≡ ends (out (entered t m i (endedEntry (taskAt t i .regs) pending)) x) ws
 unfolding quietOf finishOf switchDue greyOf
 ends-plainly t ws i m pending x h =
     rw (unquiet (t .on) (ltb (m .top) (endOf (t .upper) (t .limits .h))) (ltb 0 (m .j)) _ _ h)
 
 -- the table after an act that is plain
 abbrev pub leaves : Table → List ℕ → ℕ → After → Ended
-leaves t ws i n = ends (out (entered t i (n .marks) (n .entry)) (n .answer)) ws
+leaves t ws i n = ends (out (entered t (n .marks) i (n .entry)) (n .answer)) ws
 
 abbrev pub deedAfter : Table → ℕ → Deed → After
 deedAfter t i d = afterDeed (t .on) (t .marks) (endOf (t .upper) (t .limits .h)) (taskAt t i) d

@@ -11,7 +11,7 @@ use Rattle.table.specs.declared.Deed.the-variants.{Goes, GoesWith, Ends, EndsWi
 use Rattle.table.specs.declared.Answer.{Answer}
 use Rattle.table.specs.declared.Answer.the-variants.{Done, Moved}
 use Rattle.machine.specs.Basics.{pick}
-use Rattle.machine.specs.Entries.{entry, table}
+use Rattle.machine.specs.Entries.{entry}
 use Rattle.machine.specs.Switch.{endedEntry}
 use Rattle.new.specs.declared.Act.{Act}
 use Rattle.new.specs.declared.Act.the-variants.{Does, Asks, Denied, Drained}
@@ -37,7 +37,3 @@ afterOf on m end e (Does d) = afterDeed on m end e d
 afterOf on m end e (Asks r len k) = after false m e Done
 afterOf on m end e Denied = after false m e Done
 afterOf on m end e Drained = after false m e Done
-
--- the table with these marks and this entry
-abbrev pub entered : Table → ℕ → Marks → Task → Table
-entered t i m e = table (t .limits) (t .upper) (t .on) m (t .life) (t .roots) (set (t .tasks) i e)

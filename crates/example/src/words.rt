@@ -1,23 +1,6 @@
 // Answers in the script program's words, and the state behind them.
 use heap::Answer;
-use heap::Refusal;
 use heap::Table;
-
-fn number_of(x: Refusal) -> u64 {
-    match x {
-        Refusal::WrongLimit => 1,
-        Refusal::NoTask => 2,
-        Refusal::NoRegister => 3,
-        Refusal::NilObject => 4,
-        Refusal::NoSlot => 5,
-        Refusal::OutOfTurn => 6,
-        Refusal::Held => 7,
-        Refusal::SlotInStore => 8,
-        Refusal::NoRoom => 9,
-        Refusal::Exhausted => 10,
-        Refusal::Damaged => 11,
-    }
-}
 
 fn with_number(word: &[u8], n: u64) {
     io::write_all(1, word);
@@ -25,35 +8,9 @@ fn with_number(word: &[u8], n: u64) {
 }
 
 pub fn say(x: Answer) {
-    match x {
-        Answer::Accepted => {
-            io::write_all(1, b"ok");
-        }
-        Answer::Done => {
-            io::write_all(1, b"done");
-        }
-        Answer::Value(v) => {
-            with_number(b"value\t", v as u64);
-        }
-        Answer::Moved => {
-            io::write_all(1, b"moved");
-        }
-        Answer::Wait(q) => {
-            with_number(b"wait\t", q as u64);
-        }
-        Answer::Report(on, live, copies) => {
-            if on {
-                with_number(b"report\ton\t", live as u64);
-            } else {
-                with_number(b"report\toff\t", live as u64);
-            }
-            with_number(b"\t", copies as u64);
-        }
-        Answer::No(r) => {
-            with_number(b"no\t", number_of(r));
-        }
-    }
-    io::write_all(1, b"\n");
+    let mut line = [0u8; 40];
+    let n = answers::write_answer(x, &mut line, 0);
+    blocks::flush(&line, n);
 }
 
 // A, top, J, and 1 if the collector is on and something is grey.

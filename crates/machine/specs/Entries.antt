@@ -18,11 +18,10 @@ use Rattle.table.specs.declared.Life.{Life}
 use Rattle.table.specs.declared.Life.the-variants.{Spent, Broken}
 use Rattle.table.specs.declared.Table.{Table}
 use Rattle.table.specs.declared.Refusal.{Refusal}
-use Rattle.table.specs.declared.Refusal.the-variants.{WrongLimit, NoTask, NoRegister, NilObject, NoSlot, OutOfTurn, Held, SlotInStore, NoRoom, Exhausted, Damaged}
 use Rattle.table.specs.declared.Answer.{Answer}
 use Rattle.table.specs.declared.Answer.the-variants.{No}
 use Rattle.table.specs.declared.Outcome.{Outcome}
-use Rattle.machine.specs.Numbers.{refusal}
+use Rattle.machine.specs.Numbers.{refusal, Effect, harmless, endsNew, spends, breaks, effectOf}
 
 -- a task entry, a table and the marks, by their parts
 abbrev pub entry : List Primary → Pending → Storing → Place → Task
@@ -31,6 +30,10 @@ entry regs pending storing place = record { regs = regs; pending = pending; stor
 abbrev pub table : Limits → Bool → Bool → Marks → Life → List Primary → List Task → Table
 table limits upper on marks life roots tasks =
     record { limits = limits; upper = upper; on = on; marks = marks; life = life; roots = roots; tasks = tasks }
+
+-- t with these parts: its limits stay as set-up made them
+abbrev pub keeping : Table → Bool → Bool → Marks → Life → List Primary → List Task → Table
+keeping t upper on marks life roots tasks = table (t .limits) upper on marks life roots tasks
 
 abbrev pub marksAt : ℕ → ℕ → ℕ → ℕ → Marks
 marksAt a top j copies = record { a = a; top = top; j = j; copies = copies }
@@ -52,48 +55,45 @@ abbrev pub pendingOk : Pending → Bool
 pendingOk Nothing = true
 pendingOk (Making p r len f) = ltb r 8
 
--- one entry changed
+-- the marks and one entry changed
+abbrev pub entered : Table → Marks → ℕ → Task → Table
+entered t m i e = keeping t (t .upper) (t .on) m (t .life) (t .roots) (set (t .tasks) i e)
+
 unfoldable pub withTask : Table → ℕ → Task → Table
-withTask t i e = table (t .limits) (t .upper) (t .on) (t .marks) (t .life) (t .roots) (set (t .tasks) i e)
+withTask t i e = entered t (t .marks) i e
 
 unfoldable pub withPlace : Table → ℕ → Place → Table
 withPlace t i place = withTask t i (entry (taskAt t i .regs) (taskAt t i .pending) (taskAt t i .storing) place)
 
 -- the task has moved to a place, with these marks and this pending object
 unfoldable pub movedTable : Table → ℕ → Marks → Pending → Place → Table
-movedTable t i m pending place =
-    table (t .limits) (t .upper) (t .on) m (t .life) (t .roots)
-    (set (t .tasks) i (entry (taskAt t i .regs) pending (taskAt t i .storing) place))
+movedTable t i m pending place = entered t m i (entry (taskAt t i .regs) pending (taskAt t i .storing) place)
 
 unfoldable pub withRegister : Table → ℕ → ℕ → Primary → Table
 withRegister t i r p =
     withTask t i (entry (set (taskAt t i .regs) r p) (taskAt t i .pending) (taskAt t i .storing) (taskAt t i .place))
 
+abbrev pub withRoots : Table → List Primary → Table
+withRoots t roots = keeping t (t .upper) (t .on) (t .marks) (t .life) roots (t .tasks)
+
 unfoldable pub withRoot : Table → ℕ → Primary → Table
-withRoot t r p = table (t .limits) (t .upper) (t .on) (t .marks) (t .life) (set (t .roots) r p) (t .tasks)
+withRoot t r p = withRoots t (set (t .roots) r p)
 
 abbrev pub withLife : Table → Life → Table
-withLife t life = table (t .limits) (t .upper) (t .on) (t .marks) life (t .roots) (t .tasks)
+withLife t life = keeping t (t .upper) (t .on) (t .marks) life (t .roots) (t .tasks)
 
 abbrev pub out : Table → Answer → Outcome
 out t x = record { table = t; answer = x }
 
 -- "10 and 11 leave the table as it came but marked dead", the others as it came
-abbrev pub marked : Table → Refusal → Table
-marked t WrongLimit = t
-marked t NoTask = t
-marked t NoRegister = t
-marked t NilObject = t
-marked t NoSlot = t
-marked t OutOfTurn = t
-marked t Held = t
-marked t SlotInStore = t
-marked t NoRoom = t
-marked t Exhausted = withLife t Spent
-marked t Damaged = withLife t Broken
+abbrev pub marked : Table → Effect → Table
+marked t harmless = t
+marked t endsNew = t
+marked t spends = withLife t Spent
+marked t breaks = withLife t Broken
 
 abbrev pub refused : Table → Refusal → Outcome
-refused t x = out (marked t x) (No x)
+refused t x = out (marked t (effectOf x)) (No x)
 
 -- a refusal by 01's number
 abbrev pub no : Table → ℕ → Outcome

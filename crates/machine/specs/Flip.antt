@@ -23,7 +23,7 @@ use Rattle.table.specs.declared.Outcome.{Outcome}
 use Rattle.machine.specs.Basics.{pick, firstOf}
 use Rattle.machine.specs.Numbers.{refusal}
 use Rattle.machine.specs.Words.{lookOf, bottomOf, endOf}
-use Rattle.machine.specs.Entries.{entry, table, marksAt, out, refused, Ends, ends}
+use Rattle.machine.specs.Entries.{entry, marksAt, out, refused, Ends, ends, keeping}
 use Rattle.machine.specs.Look.{placeOf}
 
 -- what a visit leaves: how the pass stands, and every word
@@ -123,7 +123,7 @@ unaskedEntry e = entry (e .regs) (e .pending) (e .storing) (unasked (e .place))
 -- the spaces change roles, the collector is on
 abbrev pub flipped : Table → Marks → Table
 flipped t m =
-    table (t .limits) (not (t .upper)) true m (t .life) (t .roots) (firstOf (t .limits .p) unaskedEntry (t .tasks))
+    keeping t (not (t .upper)) true m (t .life) (t .roots) (firstOf (t .limits .p) unaskedEntry (t .tasks))
 
 abbrev pub flipEnd : Table → Pass → Outcome
 flipEnd t (On m) = out (flipped t m) Moved

@@ -3,10 +3,9 @@ use mathlib.Core.List.{List, [], _∷_}
 use mathlib.Core.Bool.{Bool, true, false}
 use Rattle.table.specs.declared.Place.{Place}
 use Rattle.table.specs.declared.Place.the-variants.{Idle, New, Asked, FillWrite, FillCopy, StoreWrite, Meet, StoreCopy, Take, Read, Put, Release, Looking, Placing}
-use Rattle.table.specs.declared.Refusal.{Refusal}
-use Rattle.table.specs.declared.Refusal.the-variants.{WrongLimit, NoTask, NoRegister, NilObject, NoSlot, OutOfTurn, Held, SlotInStore, NoRoom, Exhausted, Damaged}
 use Rattle.table.specs.declared.Answer.{Answer}
 use Rattle.table.specs.declared.Answer.the-variants.{Accepted, Done, Value, Moved, Wait, Report, No}
+use Rattle.machine.specs.Numbers.{Effect, harmless, endsNew, spends, breaks, effectOf}
 use Rattle.machine.specs.Basics.{pick}
 use Rattle.machine.specs.Entries.{Ends, taskAt}
 use Rattle.machine.specs.Call.{Call}
@@ -65,18 +64,11 @@ movedKinds (Looking p next) after = []
 movedKinds (Placing p next) after = []
 
 -- refusal 9 ends the New
-abbrev pub refusedKinds : Refusal → List Kind
-refusedKinds WrongLimit = []
-refusedKinds NoTask = []
-refusedKinds NoRegister = []
-refusedKinds NilObject = []
-refusedKinds NoSlot = []
-refusedKinds OutOfTurn = []
-refusedKinds Held = []
-refusedKinds SlotInStore = []
-refusedKinds NoRoom = Ended ∷ []
-refusedKinds Exhausted = []
-refusedKinds Damaged = []
+abbrev pub refusedKinds : Effect → List Kind
+refusedKinds harmless = []
+refusedKinds endsNew = Ended ∷ []
+refusedKinds spends = []
+refusedKinds breaks = []
 
 abbrev pub stepKinds : Answer → Place → Place → List Kind
 stepKinds Accepted before after = []
@@ -85,7 +77,7 @@ stepKinds (Value v) before after = []
 stepKinds Moved before after = movedKinds before after
 stepKinds (Wait q) before after = []
 stepKinds (Report on live copies) before after = []
-stepKinds (No x) before after = refusedKinds x
+stepKinds (No x) before after = refusedKinds (effectOf x)
 
 abbrev pub made : Call → Answer → Place → Place → List Kind
 made (Call.New task r len m) x before after = []

@@ -36,6 +36,23 @@ refusal n =
     (pick (eqb n 9) NoRoom
     (pick (eqb n 10) Exhausted Damaged)))))))))
 
+-- what a refusal does beside saying no: 9 ends the New, 10 and 11 mark the table dead
+pub data Effect : Type 0 where
+  harmless endsNew spends breaks : Effect
+
+abbrev pub effectOf : Refusal → Effect
+effectOf WrongLimit = harmless
+effectOf NoTask = harmless
+effectOf NoRegister = harmless
+effectOf NilObject = harmless
+effectOf NoSlot = harmless
+effectOf OutOfTurn = harmless
+effectOf Held = harmless
+effectOf SlotInStore = harmless
+effectOf NoRoom = endsNew
+effectOf Exhausted = spends
+effectOf Damaged = breaks
+
 -- the script program's word for an answer
 pub data Word : Type 0 where
   ok done value moved wait report none : Word

@@ -18,7 +18,7 @@ use Rattle.table.specs.declared.Answer.{Answer}
 use Rattle.table.specs.declared.Outcome.{Outcome}
 use Rattle.machine.specs.Basics.{pick, allOf, firstOf}
 use Rattle.machine.specs.Words.{primary, lookOf, endOf}
-use Rattle.machine.specs.Entries.{entry, table, taskAt, out, no, Ends, ends}
+use Rattle.machine.specs.Entries.{entry, taskAt, out, no, Ends, ends, entered, keeping}
 use Rattle.machine.specs.Tasks.{greyOf, allIdle}
 
 -- what a pointer becomes: its replica, and nil stays nil
@@ -58,7 +58,7 @@ entryHasReplicas ws s e =
 -- every register, root and pending pointer its replica, and the collector off
 abbrev pub switched : Table → List ℕ → Table
 switched t ws =
-    table (t .limits) (t .upper) false (t .marks) (t .life)
+    keeping t (t .upper) false (t .marks) (t .life)
     (firstOf 8 (newName ws (t .limits .s)) (t .roots))
     (firstOf (t .limits .p) (newEntry ws (t .limits .s)) (t .tasks))
 
@@ -85,8 +85,7 @@ endedEntry regs (Making p r len f) =
     pick (eqb f len) (entry (set regs r p) Nothing Nowhere Idle) (entry regs (Making p r len f) Nowhere Idle)
 
 abbrev pub endedTable : Table → ℕ → Marks → Pending → Table
-endedTable t i m pending =
-    table (t .limits) (t .upper) (t .on) m (t .life) (t .roots) (set (t .tasks) i (endedEntry (taskAt t i .regs) pending))
+endedTable t i m pending = entered t m i (endedEntry (taskAt t i .regs) pending)
 
 abbrev pub switchedOr : Table → Table → List ℕ → Answer → Outcome
 switchedOr came t ws x = pick (switchDue t) (switchOf came t ws x) (out t x)

@@ -3,15 +3,16 @@ use Prim.Native.Nat.{ℕ}
 use mathlib.Core.Path.{_≡_, refl}
 use mathlib.Core.Logic.{_≢_}
 use mathlib.Core.List.{List, [], _∷_, _++_}
-use mathlib.Core.Bool.{Bool, true, false}
+use mathlib.Core.Bool.{Bool, true, false, not}
 use lib.ListN.{length, replicate}
+use lib.Dec.{eqb}
 use Rattle.table.specs.declared.Limits.{Limits}
 use Rattle.table.specs.declared.Storing.the-variants.{Slot}
-use Rattle.table.specs.declared.Refusal.{Refusal}
-use Rattle.table.specs.declared.Refusal.the-variants.{WrongLimit, NoTask, NoRegister, NilObject, NoSlot, OutOfTurn, Held, SlotInStore, NoRoom, Exhausted, Damaged}
+use Rattle.table.specs.declared.Refusal.the-variants.{OutOfTurn, Exhausted}
 use Rattle.table.specs.declared.Answer.{Answer}
 use Rattle.table.specs.declared.Answer.the-variants.{Accepted, Done, Value, Moved, Wait, Report, No}
 use Rattle.machine.specs.Basics.{pick, allOf}
+use Rattle.machine.specs.Numbers.{numberOf}
 use Rattle.machine.specs.Words.{primary}
 use Rattle.machine.specs.Entries.{Ends}
 use Rattle.machine.specs.Gate.{sizesOk}
@@ -30,19 +31,6 @@ use Rattle.machine.specs.Beside.Exact.{waits-right, ends-right, seven-right}
 use Rattle.machine.specs.Promises.{setUp, storeAfter, loads, sames}
 
 -- ---- a run is living if none of its answers, computed, is 10
-abbrev notTen : Refusal → Bool
-notTen WrongLimit = true
-notTen NoTask = true
-notTen NoRegister = true
-notTen NilObject = true
-notTen NoSlot = true
-notTen OutOfTurn = true
-notTen Held = true
-notTen SlotInStore = true
-notTen NoRoom = true
-notTen Exhausted = false
-notTen Damaged = true
-
 abbrev lives : Answer → Bool
 lives Accepted = true
 lives Done = true
@@ -50,7 +38,7 @@ lives (Value v) = true
 lives Moved = true
 lives (Wait q) = true
 lives (Report on live copies) = true
-lives (No x) = notTen x
+lives (No x) = not (eqb (numberOf x) 10)
 
 lives-not : (x : Answer) → lives x ≡ true → x ≢ No Exhausted
 lives-not x h e = let z : false ≡ true = rw e at h in off-on z

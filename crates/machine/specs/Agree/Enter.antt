@@ -19,7 +19,7 @@ use Rattle.table.specs.declared.Task.{Task}
 use Rattle.table.specs.declared.Table.{Table}
 use Rattle.machine.specs.Basics.{pick}
 use Rattle.machine.specs.Words.{bottomOf, endOf}
-use Rattle.machine.specs.Entries.{entry, table, marksAt, noTask, taskAt, withTask, withPlace, movedTable, withRegister}
+use Rattle.machine.specs.Entries.{entry, marksAt, noTask, taskAt, withTask, withPlace, movedTable, withRegister, entered}
 use Rattle.machine.specs.Tasks.{holdingOf}
 use Rattle.machine.specs.Switch.{endedEntry, endedTable}
 use Rattle.machine.specs.Objects.Base.{upd, upd-same, upd-other, sumTo, sumTo-at, sumTo-part}
@@ -30,9 +30,6 @@ use Rattle.machine.specs.Agree.Encode.{atPrimary, atPending, atPlace, at
 use Rattle.machine.specs.Agree.Mem.{Holds}
 use Rattle.machine.specs.Agree.Agree.{addr, Ok, content, Lay, bottom, end, Agree}
 use Rattle.machine.specs.Agree.MidwayRead.{space-low, space-high}
-
-abbrev pub entered : Table → Marks → ℕ → Task → Table
-entered t m i e = table (t .limits) (t .upper) (t .on) m (t .life) (t .roots) (set (t .tasks) i e)
 
 -- ---- the machine's tables have this form
 pub map-set : {A B : Type 0} (f : A → B) (l : List A) (i : ℕ) (a : A) → map f (set l i a) ≡ set (map f l) i (f a)

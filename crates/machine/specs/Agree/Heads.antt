@@ -13,7 +13,7 @@ use Rattle.table.specs.declared.Table.{Table}
 use Rattle.table.specs.declared.Holding.{Holding}
 use Rattle.table.specs.declared.Holding.the-variants.{Rests, Asks, Free, Job, Claim, Both}
 use Rattle.machine.specs.Basics.{pick}
-use Rattle.machine.specs.Entries.{marksAt}
+use Rattle.machine.specs.Entries.{marksAt, entered}
 use Rattle.machine.specs.Tasks.{holdingOf}
 use Rattle.machine.specs.Objects.Base.{upd, upd-same, upd-other, upd-all, sumTo, sumTo-at, sumTo-part}
 use Rattle.machine.specs.Objects.State.{Hd, white, claimed, count, locked, State, IsPlaced, owes, JobIn, jobsIn, Late}
@@ -23,7 +23,7 @@ use Rattle.machine.specs.Agree.Encode.{atTask, headerWord, copyWord}
 use Rattle.machine.specs.Agree.Mem.{Loc, P, R, S, InLocs, Holds, Apart, write}
 use Rattle.machine.specs.Agree.Agree.{Held, addr, Ok, content, Lay, bottom, end, Agree}
 use Rattle.machine.specs.Agree.Apart.{apart}
-use Rattle.machine.specs.Agree.Enter.{entered, bounds, job-counted, enter}
+use Rattle.machine.specs.Agree.Enter.{bounds, job-counted, enter}
 
 -- a task with a job has one
 one-job : (h : Holding) (x i : ℕ) → JobIn h x i → jobsIn h ≡ 1

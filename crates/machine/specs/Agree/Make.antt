@@ -13,7 +13,7 @@ use Rattle.table.specs.declared.Place.the-variants.{Idle, New, Asked, FillWrite
 use Rattle.table.specs.declared.Task.{Task}
 use Rattle.table.specs.declared.Table.{Table}
 use Rattle.machine.specs.Words.{primary, descriptor, laid}
-use Rattle.machine.specs.Entries.{marksAt}
+use Rattle.machine.specs.Entries.{marksAt, entered}
 use Rattle.machine.specs.Tasks.{holdingOf}
 use Rattle.machine.specs.New.{made}
 use Rattle.machine.specs.Objects.Base.{off-on, upd, upd-same, upd-other, sumTo, sumTo-ext}
@@ -24,7 +24,7 @@ use Rattle.machine.specs.Agree.Encode.{atPending, atTask, headerWord, co
 use Rattle.machine.specs.Agree.Mem.{Loc, P, R, InLocs, Holds, Apart, write}
 use Rattle.machine.specs.Agree.Agree.{Held, addr, Ok, content, Beside, Lay, bottom, end, Agree}
 use Rattle.machine.specs.Agree.Apart.{apart}
-use Rattle.machine.specs.Agree.Enter.{entered, enter}
+use Rattle.machine.specs.Agree.Enter.{enter}
 use Rattle.machine.specs.Agree.Older.{slot-word-same}
 use Rattle.machine.specs.Agree.Block.{older-same, at-new, make-off-tasks, make-on-tasks, make-roots, spaces, clear-p, clear-r, turned, held-old, held-new, wrote-low, inside′, where-p′, apart-p′, block-frame}
 

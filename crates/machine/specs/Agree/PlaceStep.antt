@@ -22,7 +22,7 @@ use Rattle.table.specs.declared.Table.{Table}
 use Rattle.table.specs.declared.Deed.the-variants.{Goes, Fails}
 use Rattle.machine.specs.Numbers.{refusal}
 use Rattle.machine.specs.Words.{primary, replica, roomOf, roomFor}
-use Rattle.machine.specs.Entries.{entry, noTask, taskAt, movedTable}
+use Rattle.machine.specs.Entries.{entry, noTask, taskAt, movedTable, entered}
 use Rattle.machine.specs.Tasks.{holdingOf}
 use Rattle.machine.specs.Deeds.{Acted, acted}
 use Rattle.machine.specs.Look.{goOn, placeOf, placedThen, placeStepOf}
@@ -34,7 +34,6 @@ use Rattle.machine.specs.Agree.Encode.{atThen, atCopied, atPlace, atTask
 use Rattle.machine.specs.Agree.Agree.{Held, bottom, end, Agree}
 use Rattle.machine.specs.Agree.Midway.{Midway, twinNeed, twinMarks, twinWords, no-room, twin-length}
 use Rattle.machine.specs.Agree.MidwayRead.{object-in, midway-of}
-use Rattle.machine.specs.Agree.Enter.{entered}
 use Rattle.machine.specs.Agree.Twin.{twin}
 
 -- ---- an entry names replicas of placed objects only

@@ -8,6 +8,7 @@ use native.Mathlib.Omega.{arith}
 use lib.ListN.{length, getD, set, length-set}
 use Rattle.table.specs.declared.Task.{Task}
 use Rattle.table.specs.declared.Table.{Table}
+use Rattle.machine.specs.Entries.{entered}
 use Rattle.machine.specs.Tasks.{holdingOf}
 use Rattle.machine.specs.Objects.Base.{upd, upd-same, upd-all, slot, slot-same, slot-other}
 use Rattle.machine.specs.Objects.State.{Shape, State, IsPlaced, jobsIn}
@@ -17,7 +18,7 @@ use Rattle.machine.specs.Agree.Encode.{atTask, slotWord}
 use Rattle.machine.specs.Agree.Mem.{Loc, P, R, S, InLocs, write}
 use Rattle.machine.specs.Agree.Agree.{Held, addr, Ok, content, Lay, bottom, end, Agree}
 use Rattle.machine.specs.Agree.Apart.{apart}
-use Rattle.machine.specs.Agree.Enter.{entered, bounds, enter}
+use Rattle.machine.specs.Agree.Enter.{bounds, enter}
 
 -- ---- the word that a step writes is the slot's word
 -- the shape with other slots filled and written

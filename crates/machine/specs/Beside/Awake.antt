@@ -17,7 +17,7 @@ use Rattle.table.specs.declared.Place.{Place}
 use Rattle.table.specs.declared.Task.{Task}
 use Rattle.table.specs.declared.Table.{Table}
 use Rattle.machine.specs.Basics.{pick}
-use Rattle.machine.specs.Entries.{table, noTask, taskAt}
+use Rattle.machine.specs.Entries.{noTask, taskAt, entered, withRoots}
 use Rattle.machine.specs.Begin.{heldAt}
 use Rattle.machine.specs.Tasks.{holdingOf, claimsOf, soughtOf, soughtTask, lowestOf, seekOf, isFound, some, greyOf, closingOf, heldOf}
 use Rattle.machine.specs.Switch.{switchDue}
@@ -29,7 +29,6 @@ use Rattle.machine.specs.Agree.Holdings.{atHolding, holding-at}
 use Rattle.machine.specs.Agree.Search.{found-is}
 use Rattle.machine.specs.Agree.Agree.{Agree, end}
 use Rattle.machine.specs.Agree.Read.{stack-empty}
-use Rattle.machine.specs.Agree.Enter.{entered}
 
 -- a search looks at places alone
 lowest-same : (test : ℕ → Task → Bool) (p : ℕ) (ts : List Task) (i n : ℕ) (e : Task) → ((m : ℕ) → test m e ≡ test m (getD ts i noTask))
@@ -50,7 +49,7 @@ unfolding switchDue greyOf
 due-same t i e q = rw (seek-same (t .tasks) (t .limits .p) i e Claiming q, seek-same (t .tasks) (t .limits .p) i e Busy q) refl
 
 -- other roots
-pub due-roots : (t : Table) (roots : List Primary) → switchDue (table (t .limits) (t .upper) (t .on) (t .marks) (t .life) roots (t .tasks)) ≡ switchDue t
+pub due-roots : (t : Table) (roots : List Primary) → switchDue (withRoots t roots) ≡ switchDue t
 unfolding switchDue
 due-roots t roots = refl
 

@@ -13,6 +13,7 @@ use Rattle.table.specs.declared.Place.{Place}
 use Rattle.table.specs.declared.Place.the-variants.{Idle, New, Asked, FillWrite, FillCopy, StoreWrite, Meet, StoreCopy, Take, Read, Put, Release, Looking, Placing}
 use Rattle.table.specs.declared.Answer.{Answer}
 use Rattle.table.specs.declared.Answer.the-variants.{Accepted, Done, Value, Moved, Wait, Report, No}
+use Rattle.machine.specs.Numbers.{effectOf}
 use Rattle.machine.specs.Basics.{pick}
 use Rattle.machine.specs.Entries.{taskAt, Ends}
 use Rattle.machine.specs.Call.{Call}
@@ -186,7 +187,7 @@ step-first (Value v) before after h = absurd (omega (arith, h))
 step-first Moved before after h = moved-first before after h
 step-first (Wait q) before after h = absurd (omega (arith, h))
 step-first (Report on live copies) before after h = absurd (omega (arith, h))
-step-first (No x) before after h = absurd (omega (arith, refused-writes x, h))
+step-first (No x) before after h = absurd (omega (arith, refused-writes (effectOf x), h))
 
 happens-first : (ks : List Kind) (s : Store) (i x j v : ℕ) → WritesFirst ks → j < length (thingAt s x .slots) → ownerAt s i .doing ≡ storing x j v
     → getD (thingAt (happenAll s i ks) x .slots) j 0 ≡ v

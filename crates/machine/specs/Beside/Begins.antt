@@ -25,7 +25,7 @@ use Rattle.machine.specs.History.{History}
 use Rattle.machine.specs.Basics.{pick}
 use Rattle.machine.specs.Numbers.{refusal}
 use Rattle.machine.specs.Words.{primary, operandWord, objectOf}
-use Rattle.machine.specs.Entries.{entry, taskAt, withTask, withPlace, no}
+use Rattle.machine.specs.Entries.{entry, taskAt, withTask, withPlace, no, entered}
 use Rattle.machine.specs.Gate.{through, behind, callGate, pairGate}
 use Rattle.machine.specs.Tasks.{holdingOf}
 use Rattle.machine.specs.Complete.{idleAt}
@@ -38,7 +38,7 @@ use Rattle.machine.specs.Objects.Inv.{Inv, SoundOperand, PendingOk, Unfu
 use Rattle.machine.specs.Objects.Ops.{goes, moves}
 use Rattle.machine.specs.Objects.BeginSteps.{begin-new, begin-fill}
 use Rattle.machine.specs.Agree.Encode.{atOperand, atPending, atStoring, atPlace, atTask}
-use Rattle.machine.specs.Agree.Enter.{entered, moves-agree}
+use Rattle.machine.specs.Agree.Enter.{moves-agree}
 use Rattle.machine.specs.Agree.Gates.{call-gate, pair-gate}
 use Rattle.machine.specs.Agree.Read.{object-of}
 use Rattle.machine.specs.Agree.Complete.{isIdle, idle-of, register-of}

@@ -21,13 +21,12 @@ use Rattle.table.specs.declared.Object.the-variants.{Whole, Torn}
 use Rattle.table.specs.declared.Gate.{Gate}
 use Rattle.table.specs.declared.Gate.the-variants.{Open, Shut}
 use Rattle.table.specs.declared.Refusal.{Refusal}
-use Rattle.table.specs.declared.Refusal.the-variants.{WrongLimit, NoTask, NoRegister, NilObject, NoSlot, OutOfTurn, Held, SlotInStore, NoRoom, Exhausted, Damaged}
 use Rattle.table.specs.declared.Answer.{Answer}
 use Rattle.table.specs.declared.Answer.the-variants.{Accepted, Done, Value, Moved, Wait, Report, No}
 use Rattle.table.specs.declared.Outcome.{Outcome}
 use Rattle.machine.specs.Basics.{pick}
 use Rattle.machine.specs.Words.{objectOf}
-use Rattle.machine.specs.Numbers.{refusal}
+use Rattle.machine.specs.Numbers.{refusal, Effect, harmless, endsNew, spends, breaks, effectOf}
 use Rattle.machine.specs.Entries.{taskAt, nil, register, withTask, withPlace, withRegister, withRoot, marked, out, refused, no}
 use Rattle.machine.specs.Gate.{through, callGate, pairGate, tableGate}
 use Rattle.machine.specs.Tasks.{holdingOf, idleOf, slotTaken}
@@ -47,32 +46,18 @@ through-all P Open t o r p = p
 through-all P (Shut x) t o r p = r x
 
 -- a refusal leaves the entries
-pub marked-tasks : (t : Table) (x : Refusal) → marked t x .tasks ≡ t .tasks
-marked-tasks t WrongLimit = refl
-marked-tasks t NoTask = refl
-marked-tasks t NoRegister = refl
-marked-tasks t NilObject = refl
-marked-tasks t NoSlot = refl
-marked-tasks t OutOfTurn = refl
-marked-tasks t Held = refl
-marked-tasks t SlotInStore = refl
-marked-tasks t NoRoom = refl
-marked-tasks t Exhausted = refl
-marked-tasks t Damaged = refl
+pub marked-tasks : (t : Table) (x : Effect) → marked t x .tasks ≡ t .tasks
+marked-tasks t harmless = refl
+marked-tasks t endsNew = refl
+marked-tasks t spends = refl
+marked-tasks t breaks = refl
 
 -- and the collector as it was
-pub marked-on : (t : Table) (x : Refusal) → marked t x .on ≡ t .on
-marked-on t WrongLimit = refl
-marked-on t NoTask = refl
-marked-on t NoRegister = refl
-marked-on t NilObject = refl
-marked-on t NoSlot = refl
-marked-on t OutOfTurn = refl
-marked-on t Held = refl
-marked-on t SlotInStore = refl
-marked-on t NoRoom = refl
-marked-on t Exhausted = refl
-marked-on t Damaged = refl
+pub marked-on : (t : Table) (x : Effect) → marked t x .on ≡ t .on
+marked-on t harmless = refl
+marked-on t endsNew = refl
+marked-on t spends = refl
+marked-on t breaks = refl
 
 -- an idle task's Store does not wait
 pub idle-waits : (p : Place) → idleOf (holdingOf p) ≡ true → waits p ≡ 0
@@ -118,10 +103,10 @@ ifAccepted (No x) = 0
 
 module _ (t : Table) (ws : List ℕ) (i : ℕ) where
   refuses : (x : Refusal) → Answered noStore t i (refused t x)
-  refuses x = stayed (marked-tasks t x) (marked-on t x) refl
+  refuses x = stayed (marked-tasks t (effectOf x)) (marked-on t (effectOf x)) refl
 
   refuses-store : (x : Refusal) → Answered ifAccepted t i (refused t x)
-  refuses-store x = stayed (marked-tasks t x) (marked-on t x) refl
+  refuses-store x = stayed (marked-tasks t (effectOf x)) (marked-on t (effectOf x)) refl
 
   -- ---- the calls that complete at once
   two : (a b : ℕ) (o : Outcome) → Answered noStore t i o → Answered noStore t i (withTwo t ws i a b o)

@@ -13,7 +13,7 @@ use Rattle.table.specs.declared.Place.{Place}
 use Rattle.table.specs.declared.Table.{Table}
 use Rattle.table.specs.declared.Answer.{Answer}
 use Rattle.machine.specs.History.{History, withCopy, withCopies}
-use Rattle.machine.specs.Entries.{taskAt}
+use Rattle.machine.specs.Entries.{taskAt, entered}
 use Rattle.machine.specs.Tasks.{holdingOf}
 use Rattle.machine.specs.Switch.{endedEntry, endedTable, finishOf}
 use Rattle.machine.specs.StillStore.{Store, Ended, ownerAt, thingAt, withOwner, endsOwner, happenAll}
@@ -22,7 +22,7 @@ use Rattle.machine.specs.Objects.State.{Hd, Shape, jobsIn}
 use Rattle.machine.specs.Objects.Inv.{Inv, PendingOk}
 use Rattle.machine.specs.Objects.Ops.{moves}
 use Rattle.machine.specs.Agree.Encode.{atTask}
-use Rattle.machine.specs.Agree.Enter.{entered, entered-ended, moves-agree}
+use Rattle.machine.specs.Agree.Enter.{entered-ended, moves-agree}
 use Rattle.machine.specs.Beside.Still.{Still}
 use Rattle.machine.specs.Beside.StillSteps.{Filling, still-ended}
 use Rattle.machine.specs.Objects.Base.{off-on}

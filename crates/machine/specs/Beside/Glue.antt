@@ -18,7 +18,7 @@ use Rattle.machine.specs.History.{History}
 use Rattle.machine.specs.Basics.{pick}
 use Rattle.table.specs.declared.Look.the-variants.{Forwarded}
 use Rattle.machine.specs.Words.{primary, replica, operandWord, copiedWord, lookOf}
-use Rattle.machine.specs.Entries.{taskAt, movedTable}
+use Rattle.machine.specs.Entries.{taskAt, movedTable, entered}
 use Rattle.machine.specs.Begin.{isPointer}
 use Rattle.machine.specs.Look.{lookAhead}
 use Rattle.machine.specs.StillStore.{Store, ownerAt, isResting}
@@ -30,7 +30,6 @@ use Rattle.machine.specs.Agree.Agree.{Agree, Held, Lay}
 use Rattle.machine.specs.Agree.Names.{pa-zero}
 use Rattle.machine.specs.Agree.MidwayRead.{foundBy}
 use Rattle.machine.specs.Agree.Read.{look-of}
-use Rattle.machine.specs.Agree.Enter.{entered}
 use Rattle.machine.specs.Agree.Complete.{task-in}
 use Rattle.machine.specs.Beside.Stands.{Stands}
 use Rattle.machine.specs.Beside.Doing.{busy}

@@ -14,10 +14,11 @@ use Rattle.table.specs.declared.Place.{Place}
 use Rattle.table.specs.declared.Place.the-variants.{Idle, New, Asked, FillWrite, FillCopy, StoreWrite, Meet, StoreCopy, Take, Read, Put, Release, Looking, Placing}
 use Rattle.table.specs.declared.Task.{Task}
 use Rattle.table.specs.declared.Table.{Table}
-use Rattle.table.specs.declared.Refusal.the-variants.{WrongLimit, NoTask, NoRegister, NilObject, NoSlot, OutOfTurn, Held, SlotInStore, NoRoom, Exhausted, Damaged}
+use Rattle.table.specs.declared.Refusal.the-variants.{Exhausted}
 use Rattle.table.specs.declared.Answer.{Answer}
 use Rattle.table.specs.declared.Answer.the-variants.{Accepted, Done, Value, Moved, Wait, Report, No}
-use Rattle.machine.specs.Entries.{noTask, taskAt, movedTable, out, Ends, ends}
+use Rattle.machine.specs.Numbers.{Effect, harmless, endsNew, spends, breaks, effectOf}
+use Rattle.machine.specs.Entries.{noTask, taskAt, movedTable, out, Ends, ends, entered}
 use Rattle.machine.specs.StillStore.{Store, happenAll}
 use Rattle.machine.specs.Kinds.{movedKinds, stepKinds}
 use Rattle.machine.specs.Objects.Base.{off-on}
@@ -26,7 +27,6 @@ use Rattle.machine.specs.Objects.Inv.{Inv}
 use Rattle.machine.specs.Agree.Encode.{atTask}
 use Rattle.machine.specs.Agree.Agree.{Agree, bottom, end}
 use Rattle.machine.specs.Agree.Home.{Home}
-use Rattle.machine.specs.Agree.Enter.{entered}
 use Rattle.machine.specs.Words.{roomOf}
 use Rattle.machine.specs.Switch.{switchDue}
 use Rattle.machine.specs.History.{Copy, History, withCopy, withCopies, stepHistory}
@@ -52,6 +52,12 @@ pub record Good (l : Limits) (w : Store) (hy : History) (t : Table) (ws : List �
   pub awake : objects .on ≡ true → switchDue t ≡ false
   pub collected : objects .on ≡ false → Exact hy × (t .marks .copies ≡ length (hy .copies))
 
+abbrev pub Harmless : Effect → Type 0
+Harmless harmless = Unit {0}
+Harmless endsNew = ⊥
+Harmless spends = ⊥
+Harmless breaks = ⊥
+
 -- neither refusal 9 nor 10 nor 11
 abbrev pub Undamaged : Answer → Type 0
 Undamaged Accepted = Unit {0}
@@ -60,17 +66,7 @@ Undamaged (Value v) = Unit {0}
 Undamaged Moved = Unit {0}
 Undamaged (Wait q) = Unit {0}
 Undamaged (Report on live copies) = Unit {0}
-Undamaged (No WrongLimit) = Unit {0}
-Undamaged (No NoTask) = Unit {0}
-Undamaged (No NoRegister) = Unit {0}
-Undamaged (No NilObject) = Unit {0}
-Undamaged (No NoSlot) = Unit {0}
-Undamaged (No OutOfTurn) = Unit {0}
-Undamaged (No Held) = Unit {0}
-Undamaged (No SlotInStore) = Unit {0}
-Undamaged (No NoRoom) = ⊥
-Undamaged (No Exhausted) = ⊥
-Undamaged (No Damaged) = ⊥
+Undamaged (No x) = Harmless (effectOf x)
 
 -- A refusal 9 is a New's that, while collecting, found less room than it needs for its two objects.
 abbrev pub Crowded : Table → Place → Type 0
@@ -89,6 +85,12 @@ Crowded t (Release n x i) = ⊥
 Crowded t (Looking p th) = ⊥
 Crowded t (Placing p th) = ⊥
 
+abbrev pub FineRefusal : Table → Place → Effect → Type 0
+FineRefusal t before harmless = Unit {0}
+FineRefusal t before endsNew = Crowded t before
+FineRefusal t before spends = ⊥
+FineRefusal t before breaks = ⊥
+
 abbrev pub Fine : Table → Place → Answer → Type 0
 Fine t before Accepted = Unit {0}
 Fine t before Done = Unit {0}
@@ -96,17 +98,7 @@ Fine t before (Value v) = Unit {0}
 Fine t before Moved = Unit {0}
 Fine t before (Wait q) = Unit {0}
 Fine t before (Report on live copies) = Unit {0}
-Fine t before (No WrongLimit) = Unit {0}
-Fine t before (No NoTask) = Unit {0}
-Fine t before (No NoRegister) = Unit {0}
-Fine t before (No NilObject) = Unit {0}
-Fine t before (No NoSlot) = Unit {0}
-Fine t before (No OutOfTurn) = Unit {0}
-Fine t before (No Held) = Unit {0}
-Fine t before (No SlotInStore) = Unit {0}
-Fine t before (No NoRoom) = Crowded t before
-Fine t before (No Exhausted) = ⊥
-Fine t before (No Damaged) = ⊥
+Fine t before (No x) = FineRefusal t before (effectOf x)
 
 -- A step of task i, whose place was `before`, ends as e: the heap is exhausted, for the reason X; or the store that is
 -- told the kinds of action stands beside the table again, and the answer is neither 10 nor 11, and 9 only for want of room.

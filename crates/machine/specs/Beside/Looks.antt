@@ -20,7 +20,7 @@ use Rattle.table.specs.declared.Answer.the-variants.{Moved}
 use Rattle.machine.specs.History.{History}
 use Rattle.machine.specs.Numbers.{refusal}
 use Rattle.machine.specs.Words.{primary, replica, roomOf, ifForwarded}
-use Rattle.machine.specs.Entries.{taskAt, movedTable, out, ends}
+use Rattle.machine.specs.Entries.{taskAt, movedTable, out, ends, entered}
 use Rattle.machine.specs.Deeds.{acted}
 use Rattle.machine.specs.Look.{goOn, unplacedCase, lookStepOf, placeStepOf}
 use Rattle.machine.specs.Step.{waitOf, settle, settleOf}
@@ -37,7 +37,7 @@ use Rattle.machine.specs.Agree.Agree.{Agree, Held, end}
 use Rattle.machine.specs.Agree.Names.{sound-held}
 use Rattle.machine.specs.Agree.MidwayRead.{foundBy}
 use Rattle.machine.specs.Agree.Read.{look-of}
-use Rattle.machine.specs.Agree.Enter.{entered, moves-agree}
+use Rattle.machine.specs.Agree.Enter.{moves-agree}
 use Rattle.machine.specs.Agree.PlaceStep.{at-on, place-step, placed-moved}
 use Rattle.machine.specs.Agree.Midway.{twinNeed, twinMarks, twinWords}
 use Rattle.machine.specs.Agree.Heads.{claim-agree}

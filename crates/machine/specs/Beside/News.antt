@@ -19,7 +19,7 @@ use Rattle.machine.specs.History.{History, withCopy}
 use Rattle.machine.specs.Basics.{pick}
 use Rattle.machine.specs.Numbers.{refusal}
 use Rattle.machine.specs.Words.{primary, descriptor, roomFor, laid}
-use Rattle.machine.specs.Entries.{taskAt, movedTable, out, ends}
+use Rattle.machine.specs.Entries.{taskAt, movedTable, out, ends, entered}
 use Rattle.machine.specs.Begin.{newOk}
 use Rattle.machine.specs.Switch.{endedEntry, endedTable, finishOf}
 use Rattle.machine.specs.New.{claimed, made, claimedTwice, newOnOf}
@@ -36,7 +36,7 @@ use Rattle.machine.specs.Objects.NewSteps.{new-on, new-off}
 use Rattle.machine.specs.Objects.Ends.{new-ends}
 use Rattle.machine.specs.Agree.Encode.{atPlace, atTask}
 use Rattle.machine.specs.Agree.Agree.{bottom, end}
-use Rattle.machine.specs.Agree.Enter.{entered, entered-moved, entered-ended}
+use Rattle.machine.specs.Agree.Enter.{entered-moved, entered-ended}
 use Rattle.machine.specs.Agree.Block.{make-on-tasks, make-off-tasks}
 use Rattle.machine.specs.Agree.Make.{made-at, make-on-agree, make-off-agree}
 use Rattle.machine.specs.Agree.Home.{home-new}

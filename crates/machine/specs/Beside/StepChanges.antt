@@ -26,7 +26,7 @@ use Rattle.table.specs.declared.Refusal.{Refusal}
 use Rattle.table.specs.declared.Answer.{Answer}
 use Rattle.table.specs.declared.Answer.the-variants.{Done, Moved, No}
 use Rattle.machine.specs.Basics.{pick, allOf, firstOf}
-use Rattle.machine.specs.Numbers.{refusal}
+use Rattle.machine.specs.Numbers.{refusal, effectOf}
 use Rattle.machine.specs.Words.{endOf, roomFor}
 use Rattle.machine.specs.Entries.{taskAt, withTask, withPlace, movedTable, out, refused, ends}
 use Rattle.machine.specs.Entries.{Ends as Ended}
@@ -96,7 +96,7 @@ creating-asked r len m = record { waiting = refl; done = refl; moved = λ after.
 
 module _ (t : Table) (i : ℕ) (before : Place) where
   pub refuses : (x : Refusal) (ws : List ℕ) → Stepped t i before (ends (refused t x) ws)
-  refuses x ws = stands (marked-tasks t x) (marked-on t x) (λ after. refused-writes x)
+  refuses x ws = stands (marked-tasks t (effectOf x)) (marked-on t (effectOf x)) (λ after. refused-writes (effectOf x))
 
   pub waited : (w : Sought) (ws : List ℕ) → Stepped t i before (ends (waitOf t w) ws)
   unfolding waitOf

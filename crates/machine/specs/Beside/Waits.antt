@@ -6,8 +6,7 @@ use Rattle.table.specs.declared.Then.{Then}
 use Rattle.table.specs.declared.Then.the-variants.{ToWrite, ToStoreCopy, ToFillCopy, ToPut}
 use Rattle.table.specs.declared.Place.{Place}
 use Rattle.table.specs.declared.Place.the-variants.{Idle, New, Asked, FillWrite, FillCopy, StoreWrite, Meet, StoreCopy, Take, Read, Put, Release, Looking, Placing}
-use Rattle.table.specs.declared.Refusal.{Refusal}
-use Rattle.table.specs.declared.Refusal.the-variants.{WrongLimit, NoTask, NoRegister, NilObject, NoSlot, OutOfTurn, Held, SlotInStore, NoRoom, Exhausted, Damaged}
+use Rattle.machine.specs.Numbers.{Effect, harmless, endsNew, spends, breaks}
 use Rattle.machine.specs.Flip.{unasked}
 use Rattle.machine.specs.StillStore.{Kind, Made, Filled, Written, Ended}
 use Rattle.machine.specs.Kinds.{refusedKinds}
@@ -44,18 +43,11 @@ writes (Written ∷ ks) = suc (writes ks)
 writes (Ended ∷ ks) = writes ks
 
 -- a refusal writes nothing
-pub refused-writes : (x : Refusal) → writes (refusedKinds x) ≡ 0
-refused-writes WrongLimit = refl
-refused-writes NoTask = refl
-refused-writes NoRegister = refl
-refused-writes NilObject = refl
-refused-writes NoSlot = refl
-refused-writes OutOfTurn = refl
-refused-writes Held = refl
-refused-writes SlotInStore = refl
-refused-writes NoRoom = refl
-refused-writes Exhausted = refl
-refused-writes Damaged = refl
+pub refused-writes : (x : Effect) → writes (refusedKinds x) ≡ 0
+refused-writes harmless = refl
+refused-writes endsNew = refl
+refused-writes spends = refl
+refused-writes breaks = refl
 
 -- the flip moves no Store
 pub unasked-waits : (p : Place) → waits (unasked p) ≡ waits p

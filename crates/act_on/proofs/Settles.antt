@@ -7,7 +7,6 @@ use Rattle.table.specs.declared.Place.{Place}
 use Rattle.table.specs.declared.Place.the-variants.{Idle, New, Asked, FillWrite, FillCopy, StoreWrite, Meet, StoreCopy, Take, Read, Put, Release, Looking, Placing}
 use Rattle.table.specs.declared.Task.{Task}
 use Rattle.table.specs.declared.Table.{Table}
-use Rattle.machine.specs.Basics.{pick}
 use Rattle.machine.specs.Words.{endOf}
 use Rattle.machine.specs.Step.{settleOf, takeStepOf, onStepOf}
 use Rattle.new.specs.Acts.{Came, settleAct, settled}

@@ -2,10 +2,8 @@
 use Prim.Native.Nat.{ℕ}
 use mathlib.Core.Bool.{Bool, true, false, not}
 use lib.Dec.{ltb}
-use lib.ListN.{set}
 use Rattle.table.specs.declared.Marks.{Marks}
 use Rattle.table.specs.declared.Task.{Task}
-use Rattle.table.specs.declared.Table.{Table}
 use Rattle.table.specs.declared.Deed.{Deed}
 use Rattle.table.specs.declared.Deed.the-variants.{Goes, GoesWith, Ends, EndsWith, Waits, Fails}
 use Rattle.table.specs.declared.Answer.{Answer}

@@ -1,6 +1,5 @@
 // What an act leaves of its task's entry and of the marks: of most acts that is all, and the table need not go whole.
 ghost use mathlib.Core.Path.{_≡_};
-ghost use Prim.Native.Nat.{ℕ};
 ghost use Rattle.after.specs.Left.{quietOf, afterDeed, afterOf};
 use new::Act;
 use table::Answer;

@@ -1,6 +1,5 @@
 // The actions of a Fill: the primary's slot, then the replica's.
 ghost use mathlib.Core.Path.{_≡_};
-ghost use Prim.Native.Nat.{ℕ};
 ghost use Rattle.table.specs.declared.Then.the-variants.{ToFillCopy};
 ghost use Rattle.table.specs.declared.Place.the-variants.{FillCopy};
 ghost use Rattle.machine.specs.Deeds.{acted};

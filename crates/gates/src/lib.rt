@@ -1,6 +1,6 @@
 // What every call tests first: limits and buffer (1), the dead number, the table's numbers (11), the task (2), registers (3).
 ghost use mathlib.Core.Path.{_≡_};
-ghost use Prim.Native.Nat.{ℕ, _+_, _*_, _≤_, _<_};
+ghost use Prim.Native.Nat.{_+_, _*_, _≤_, _<_};
 ghost use Rattle.machine.specs.Basics.{When};
 ghost use Rattle.machine.specs.Words.{bottomOf, endOf};
 ghost use Rattle.machine.specs.Bounds.{Limited, Sized, Fits, Opened, Admitted, Paired};

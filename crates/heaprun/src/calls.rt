@@ -7,7 +7,6 @@ use heap::Answer;
 use heap::Outcome;
 use heap::Table;
 use script::Said;
-ghost use mathlib.Core.Path.{_≡_};
 ghost use Prim.Native.Nat.{_+_, _≤_};
 ghost use lib.ListN.{length};
 

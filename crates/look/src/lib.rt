@@ -1,6 +1,6 @@
 // Look and place, each once, with what follows as data.
 ghost use mathlib.Core.Path.{_≡_};
-ghost use Prim.Native.Nat.{ℕ, _+_, _≤_, _<_};
+ghost use Prim.Native.Nat.{_+_, _≤_};
 ghost use lib.ListN.{length};
 ghost use Rattle.machine.specs.Words.{laid};
 ghost use Rattle.machine.specs.Bounds.{Fits, Reaches, Roomy};

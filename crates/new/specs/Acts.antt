@@ -1,7 +1,7 @@
 -- What a step comes to before the table is touched, what that makes of the table, and New's own steps as such.
 use Prim.Native.Nat.{ℕ, _+_, _*_}
 use mathlib.Core.List.{List}
-use mathlib.Core.Bool.{Bool, true, false}
+use mathlib.Core.Bool.{true, false}
 use Rattle.table.specs.declared.Limits.{Limits}
 use Rattle.table.specs.declared.Marks.{Marks}
 use Rattle.table.specs.declared.Place.the-variants.{Asked, Take}

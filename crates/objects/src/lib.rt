@@ -1,6 +1,6 @@
 // The one check of a pointer, the one look, a replica's header, room, and the words of values.
 ghost use mathlib.Core.Path.{_≡_};
-ghost use Prim.Native.Nat.{ℕ, _+_, _≤_, _<_};
+ghost use Prim.Native.Nat.{_+_, _≤_, _<_};
 ghost use lib.ListN.{length};
 ghost use Rattle.machine.specs.Basics.{When};
 ghost use Rattle.machine.specs.Words.{operandWord, copiedWord, descriptor, objectOf, lookOf, copyingOf, roomOf, roomFor};

@@ -1,6 +1,6 @@
 // What an act makes of the table, which goes whole to whatever ends, waits, asks or fails.
 ghost use mathlib.Core.Path.{_≡_};
-ghost use Prim.Native.Nat.{ℕ, _+_, _*_, _≤_, _<_};
+ghost use Prim.Native.Nat.{_+_, _*_, _≤_, _<_};
 ghost use lib.ListN.{length};
 ghost use Rattle.machine.specs.Entries.{ends, taskAt, movedTable};
 ghost use Rattle.machine.specs.Switch.{finishOf};

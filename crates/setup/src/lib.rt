@@ -1,6 +1,6 @@
 // Set-up and report.
 ghost use mathlib.Core.Path.{_≡_};
-ghost use Prim.Native.Nat.{ℕ, _≤_};
+ghost use Prim.Native.Nat.{_≤_};
 ghost use lib.ListN.{length, replicate};
 ghost use Rattle.machine.specs.Entries.{ends};
 ghost use Rattle.machine.specs.Setup.{limits, freshTask, freshTable, unset as unsetTable};

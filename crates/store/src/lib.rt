@@ -1,6 +1,5 @@
 // The actions of a Store behind the look at the old pointer: the primary's slot, meet, the replica's slot.
 ghost use mathlib.Core.Path.{_≡_};
-ghost use Prim.Native.Nat.{ℕ};
 ghost use Rattle.table.specs.declared.Then.the-variants.{ToStoreCopy};
 ghost use Rattle.table.specs.declared.Place.the-variants.{StoreCopy};
 ghost use Rattle.machine.specs.Deeds.{acted};

@@ -81,9 +81,10 @@ pub fn with_place(t: Table, i: usize, place: Place) -> Table
     requires { ⌜ i < 8 ⌝ }
     ensures { λ u. ⌜ u ≡ withPlace t i place ⌝ }
 {
-    let mut u = t;
     let e = t.tasks[i];
-    u.tasks[i] = Task { place: place, ..e };
+    let f = Task { place: place, ..e };
+    let mut u = t;
+    u.tasks[i] = f;
     u
 }
 
@@ -92,12 +93,13 @@ pub fn moved_table(t: Table, i: usize, m: Marks, pending: Pending, place: Place)
     requires { ⌜ i < 8 ⌝ }
     ensures { λ u. ⌜ u ≡ movedTable t i m pending place ⌝ }
 {
-    let mut u = Table { marks: m, ..t };
     let e = t.tasks[i];
-    u.tasks[i] = Task {
+    let f = Task {
         pending: pending,
         place: place,
         ..e
     };
+    let mut u = Table { marks: m, ..t };
+    u.tasks[i] = f;
     u
 }

@@ -12,8 +12,8 @@ use Rattle.table.specs.declared.Table.{Table}
 use Rattle.table.specs.declared.Answer.the-variants.{Accepted}
 use Rattle.machine.specs.Numbers.{ok, done, moved, wait, none}
 use Rattle.machine.specs.Words.{primary, descriptor, laid}
-use Rattle.machine.specs.Entries.{table, marksAt, taskAt, nil, withPlace, out, Ends, ends}
-use Rattle.machine.specs.Setup.{limits, freshTask, unset, setupOf}
+use Rattle.machine.specs.Entries.{keeping, marksAt, taskAt, nil, withPlace, out, Ends, ends}
+use Rattle.machine.specs.Setup.{limits, freshTask, freshTable, unset, setupOf}
 use Rattle.machine.specs.Call.{Call}
 use Rattle.machine.specs.Calls.{call, run}
 use Rattle.machine.specs.Sum.{roomSum}
@@ -25,7 +25,7 @@ setting h k n = setupOf unset (limits 1 4 h k) (replicate n 1)
 
 -- P tasks, S = 4, H = 64, k = 1, all idle with nothing in registers and roots: off in words 2 to 65, or on in words 66 to 129
 abbrev pub bare : ℕ → Bool → Marks → Table
-bare p on m = table (limits p 4 64 1) on on m Living (replicate 8 nil) (replicate 8 freshTask)
+bare p on m = keeping (freshTable (limits p 4 64 1)) on on m Living (replicate 8 nil) (replicate 8 freshTask)
 
 -- task 0 begins a New of length 4 there, and makes a step of it
 abbrev pub newOfFour : Table → Ends

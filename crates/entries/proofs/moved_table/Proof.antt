@@ -10,15 +10,15 @@ mul-e c = search needs
 element-copy-out-e : tie.Need-element-copy-out-e
 element-copy-out-e c = search needs
 
-mul-t15 : tie.Need-mul-t15
-mul-t15 c = search needs
+mul-f : tie.Need-mul-f
+mul-f c = search needs
 
-element-set-from-u : tie.Need-element-set-from-u
-element-set-from-u c = search needs
+element-set-from-f : tie.Need-element-set-from-f
+element-set-from-f c = search needs
 
 returns : tie.Need-returns
 unfolding movedTable
 returns c = search needs
 
 pub moved-table-spec : {M : Type 1} → statement M
-moved-table-spec = tie.close (tie.spec mul-e element-copy-out-e mul-t15 element-set-from-u returns)
+moved-table-spec = tie.close (tie.spec mul-e element-copy-out-e mul-f element-set-from-f returns)

@@ -11,15 +11,15 @@ mul-e c = search needs
 element-copy-out-e : tie.Need-element-copy-out-e
 element-copy-out-e c = search needs
 
-mul-t8 : tie.Need-mul-t8
-mul-t8 c = search needs
+mul-f : tie.Need-mul-f
+mul-f c = search needs
 
-element-set-from-u : tie.Need-element-set-from-u
-element-set-from-u c = search needs
+element-set-from-f : tie.Need-element-set-from-f
+element-set-from-f c = search needs
 
 returns : tie.Need-returns
 unfolding withPlace withTask
 returns c = search needs
 
 pub with-place-spec : {M : Type 1} → statement M
-with-place-spec = tie.close (tie.spec mul-e element-copy-out-e mul-t8 element-set-from-u returns)
+with-place-spec = tie.close (tie.spec mul-e element-copy-out-e mul-f element-set-from-f returns)

@@ -33,7 +33,8 @@ fn unchanged(t: Table, x: Refusal) -> Outcome
     }
 }
 
-// A refusal: 10 and 11 mark the table dead.
+// A refusal: 10 and 11 mark the table dead. (With one arm for the rest the compiler writes it out in every call, and the
+// table is copied a fifth more often.)
 pub fn refused(t: Table, x: Refusal) -> Outcome
     ensures { λ r. ⌜ r ≡ refusedOf t x ⌝ }
 {

@@ -1,7 +1,7 @@
 -- The steps of a New that is not yet claimed.
 use Prim.Native.Nat.{ℕ, _+_, _*_}
 use mathlib.Core.List.{List}
-use mathlib.Core.Bool.{true, false}
+use mathlib.Core.Bool.{Bool, true, false}
 use Rattle.table.specs.declared.Marks.{Marks}
 use Rattle.table.specs.declared.Pending.{Pending}
 use Rattle.table.specs.declared.Pending.the-variants.{Making}
@@ -47,11 +47,15 @@ newOffOf t ws i r len m =
 abbrev pub claimedTwice : List ℕ → ℕ → ℕ → ℕ → List ℕ
 claimedTwice ws a len d = laid (laid ws a d (a + (len + 4))) (a + (len + 2)) d 0
 
+-- while collecting, room for the object and its replica
+abbrev pub roomForTwo : Marks → ℕ → ℕ → Bool
+roomForTwo m end len = roomFor true m end (2 * (len + 2))
+
 -- Collecting
 unfoldable pub newOnOf : Table → List ℕ → ℕ → ℕ → ℕ → ℕ → Ends
 newOnOf t ws i r len m =
     pick (newOk (t .limits .s) r len m)
-    (pick (roomFor true (t .marks) (endOf (t .upper) (t .limits .h)) (2 * (len + 2)))
+    (pick (roomForTwo (t .marks) (endOf (t .upper) (t .limits .h)) len)
     (ends (out (movedTable t i (claimed (t .marks) (2 * (len + 2))) (made (t .marks) r len) (Take (2 * t .limits .k))) Moved)
     (claimedTwice ws (t .marks .a) len (descriptor len m)))
     (finishOf t ws i (t .marks) (taskAt t i .pending) (No (refusal 9))))

@@ -1,5 +1,5 @@
 -- New's steps as the machine defines them are what their acts make of the table.
-use Prim.Native.Nat.{ℕ, _+_, _*_}
+use Prim.Native.Nat.{ℕ, _+_}
 use mathlib.Core.Path.{_≡_, refl, sym}
 use mathlib.Core.List.{List}
 use mathlib.Core.Bool.{Bool, true, false}
@@ -7,7 +7,7 @@ use Rattle.table.specs.declared.Table.{Table}
 use Rattle.machine.specs.Basics.{pick}
 use Rattle.machine.specs.Words.{endOf, roomFor}
 use Rattle.machine.specs.Begin.{newOk}
-use Rattle.machine.specs.New.{newOffOf, newOnOf}
+use Rattle.machine.specs.New.{newOffOf, roomForTwo, newOnOf}
 use Rattle.machine.specs.Step.{settleOf}
 use Rattle.new.specs.Acts.{Came, settleAct, settled, newOffAct, newOnAct}
 
@@ -29,4 +29,4 @@ new-off-settles t ws i r len k =
 pub new-on-settles : (t : Table) (ws : List ℕ) (i r len k : ℕ) → newOnOf t ws i r len k ≡ settled t i (newOnAct (t .limits) (t .marks) (endOf (t .upper) (t .limits .h)) ws r len k)
 unfolding newOnOf newOnAct settled settleAct settleOf
 new-on-settles t ws i r len k =
-    sym (settled-pick2 t i (newOk (t .limits .s) r len k) (roomFor true (t .marks) (endOf (t .upper) (t .limits .h)) (2 * (len + 2))) _ _ _)
+    sym (settled-pick2 t i (newOk (t .limits .s) r len k) (roomForTwo (t .marks) (endOf (t .upper) (t .limits .h)) len) _ _ _)

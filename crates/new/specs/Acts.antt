@@ -1,7 +1,7 @@
 -- What a step comes to before the table is touched, what that makes of the table, and New's own steps as such.
 use Prim.Native.Nat.{ℕ, _+_, _*_}
 use mathlib.Core.List.{List}
-use mathlib.Core.Bool.{true, false}
+use mathlib.Core.Bool.{false}
 use Rattle.table.specs.declared.Limits.{Limits}
 use Rattle.table.specs.declared.Marks.{Marks}
 use Rattle.table.specs.declared.Place.the-variants.{Asked, Take}
@@ -17,7 +17,7 @@ use Rattle.machine.specs.Tasks.{seekOf}
 use Rattle.machine.specs.Begin.{newOk}
 use Rattle.machine.specs.Deeds.{Acted}
 use Rattle.machine.specs.Switch.{finishOf}
-use Rattle.machine.specs.New.{claimed, made, askOr, claimedTwice}
+use Rattle.machine.specs.New.{claimed, made, askOr, claimedTwice, roomForTwo}
 use Rattle.machine.specs.Step.{settleOf, emptyTakeOf}
 use Rattle.new.specs.declared.Act.{Act}
 use Rattle.new.specs.declared.Act.the-variants.{Does, Asks, Denied, Drained}
@@ -62,7 +62,7 @@ newOffAct l m end ws r len k =
 unfoldable pub newOnAct : Limits → Marks → ℕ → List ℕ → ℕ → ℕ → ℕ → Came
 newOnAct l m end ws r len k =
     pick (newOk (l .s) r len k)
-    (pick (roomFor true m end (2 * (len + 2)))
+    (pick (roomForTwo m end len)
     (came
     (Does (GoesWith (claimed m (2 * (len + 2))) (made m r len) (Take (2 * l .k))))
     (claimedTwice ws (m .a) len (descriptor len k)))

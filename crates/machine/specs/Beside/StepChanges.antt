@@ -34,7 +34,7 @@ use Rattle.machine.specs.Tasks.{seekOf, greyOf, allIdle}
 use Rattle.machine.specs.Begin.{newOk}
 use Rattle.machine.specs.Switch.{newEntry, hasReplica, entryHasReplicas, switchOf, switchDue, endedEntry, endedTable, finishOf}
 use Rattle.machine.specs.Flip.{unaskedEntry, flipEnd, passesOf, flipOf}
-use Rattle.machine.specs.New.{askOr, newOffOf, newOnOf}
+use Rattle.machine.specs.New.{askOr, newOffOf, roomForTwo, newOnOf}
 use Rattle.machine.specs.Step.{waitFor, waitOf, settleOf, emptyTakeOf}
 use Rattle.machine.specs.Kinds.{pays, doneKinds, movedKinds, stepKinds}
 use Rattle.machine.specs.Beside.Waits.{waits, writes, refused-writes}
@@ -167,7 +167,7 @@ module _ (t : Table) (i : ℕ) (before : Place) where
   new-on ws r len m k =
       pick-all (Stepped t i before) (newOk (t .limits .s) r len m) _ _
       (λ e.
-      pick-all (Stepped t i before) (roomFor true (t .marks) (endOf (t .upper) (t .limits .h)) (2 * (len + 2))) _ _
+      pick-all (Stepped t i before) (roomForTwo (t .marks) (endOf (t .upper) (t .limits .h)) len) _ _
       (λ f. goes _ refl refl (omega (arith, k .moved (Take (2 * t .limits .k)), k .waiting)))
       (λ f. finished ws (t .marks) (taskAt t i .pending) (No (refusal 9)) (sym (k .waiting))))
       (λ e. refuses (refusal 11) ws)

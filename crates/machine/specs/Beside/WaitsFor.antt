@@ -1,6 +1,6 @@
 -- Whom a step waits for, and why: the claimer of what it looks at, the holder of its Store's own slot, a task with a job or a
 -- claim while the stack is empty, a task that keeps a flip from being made for want of room.
-use Prim.Native.Nat.{ℕ, _+_, _-_, _*_, _≤_, _<_}
+use Prim.Native.Nat.{ℕ, _+_, _-_, _≤_, _<_}
 use mathlib.Core.Path.{_≡_, refl, ap, _∙_}
 use mathlib.Core.Logic.{_≢_, _⊎_, inl, inr}
 use mathlib.Core.List.{List}
@@ -47,7 +47,7 @@ use Rattle.machine.specs.Begin.{newOk}
 use Rattle.machine.specs.Store.{meetOf}
 use Rattle.machine.specs.Switch.{hasReplica, entryHasReplicas, switchOf, switchDue, endedTable, finishOf}
 use Rattle.machine.specs.Flip.{passesOf, flipEnd, flipOf}
-use Rattle.machine.specs.New.{askOr, newOffOf, newOnOf}
+use Rattle.machine.specs.New.{askOr, newOffOf, roomForTwo, newOnOf}
 use Rattle.machine.specs.Step.{waitFor, waitOf, settle, settleOf, emptyTakeOf, takeStepOf, offStepOf, onStepOf, taskStepOf, stepThrough, stepOf}
 use Rattle.machine.specs.Objects.Base.{clash, off-on}
 use Rattle.machine.specs.Agree.Search.{found-is}
@@ -211,7 +211,7 @@ module _ (t : Table) (ws : List ℕ) (i q : ℕ) where
   new-on r len m =
       pick-all (Gives t i q (For (New r len m))) (newOk (t .limits .s) r len m) _ _
       (λ e.
-      pick-all (Gives t i q (For (New r len m))) (roomFor true (t .marks) (endOf (t .upper) (t .limits .h)) (2 * (len + 2))) _ _
+      pick-all (Gives t i q (For (New r len m))) (roomForTwo (t .marks) (endOf (t .upper) (t .limits .h)) len) _ _
       (λ f. moved t i q (For (New r len m)))
       (λ f. finished t i q (For (New r len m)) ws (t .marks) (taskAt t i .pending) (No (refusal 9)) (λ e. let z : _≡_ {A = ℕ} 0 1 = cc in clash z)))
       (λ e. refuses t i q (For (New r len m)) (refusal 11) ws)

@@ -1,6 +1,6 @@
 // The lines of a block, each by its call on the heap. The words in use are the first 2+2H of the largest buffer.
-// Each line's call stands in the loop, and the table goes from a call's outcome straight back into one local: whatever
-// lies between copies the table once more a line.
+// The frequent calls stand in the loop, and the table goes from a call's outcome straight back into one local: whatever
+// lies between copies the table once more.
 use crate::lines::Lines;
 use crate::lines::State;
 use heap::Answer;

@@ -21,12 +21,7 @@ pub mod Call
 pub mod Calls
 pub mod Sum
 pub mod Opened
-pub mod Outcomes
 pub mod StillStore
 pub mod Kinds
-pub mod Objects
-pub mod Agree
 pub mod Live
 pub mod History
-pub mod Beside
-pub mod Promises

@@ -9,7 +9,7 @@ ghost use Rattle.new.specs.Acts.{came, new_off_act, new_on_act};
 use table::{Deed, Limits, Marks, Pending, Place, Primary, Refusal};
 
 // What a step comes to, found from the task's own entry and the words alone.
-#[derive(Drop)]
+#[derive(Clone, Copy)]
 pub enum Act {
     Does(Deed),
     // A New without room while off, with its register, L and m: it asks for a flip.

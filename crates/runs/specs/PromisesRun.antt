@@ -17,12 +17,12 @@ use Rattle.machine.specs.StillStore.{Store, happen_all, load_answer, same_answer
 use Rattle.machine.specs.Kinds.{beside}
 use Rattle.machine.specs.Opened.{steps, opened}
 use Rattle.runs.specs.StillRun.{dropped, axle, turned, ended, small, turned_again, closing, again}
-use Rattle.machine.specs.Objects.Base.{off_on}
-use Rattle.machine.specs.Beside.Run.{Living}
-use Rattle.machine.specs.Beside.WaitsFor.{MetBy}
-use Rattle.machine.specs.Beside.Grey.{NothingGrey, Closing}
-use Rattle.machine.specs.Beside.Exact.{waits_right, ends_right, seven_right}
-use Rattle.machine.specs.Promises.{set_up, store_after, loads, sames}
+use Rattle.machine.proofs.Objects.Base.{off_on}
+use Rattle.machine.proofs.Beside.Run.{Living}
+use Rattle.machine.proofs.Beside.WaitsFor.{MetBy}
+use Rattle.machine.proofs.Beside.Grey.{NothingGrey, Closing}
+use Rattle.machine.proofs.Beside.Exact.{waits_right, ends_right, seven_right}
+use Rattle.machine.proofs.Promises.{set_up, store_after, loads, sames}
 
 -- ---- a run is living if none of its answers, computed, is 10
 abbrev lives : Answer → Bool

@@ -2,7 +2,7 @@
 // What they mean is said by the crate machine; nothing here computes.
 
 // The set-up limits: tasks P, longest object S, half size H, rate k.
-#[derive(Drop)]
+#[derive(Clone, Copy)]
 pub struct Limits {
     pub p: u32,
     pub s: u32,
@@ -11,42 +11,42 @@ pub struct Limits {
 }
 
 // The pointer of a primary, and that of a replica: word numbers of two kinds. Nil is 0 in both.
-#[derive(Drop)]
+#[derive(Clone, Copy)]
 pub struct Primary(pub u32);
 
-#[derive(Drop)]
+#[derive(Clone, Copy)]
 pub struct Replica(pub u32);
 
 // What a Fill or a Store gives: a plain word, or a pointer.
-#[derive(Drop)]
+#[derive(Clone, Copy)]
 pub enum Operand {
     Plain(u32),
     Pointer(Primary),
 }
 
 // What goes into a replica's slot: a plain word is the same there, a pointer is its replica's.
-#[derive(Drop)]
+#[derive(Clone, Copy)]
 pub enum Copied {
     Same(u32),
     Renamed(Replica),
 }
 
 // A task's pending object: where it is, the register it goes to, its length L, the slots filled.
-#[derive(Drop)]
+#[derive(Clone, Copy)]
 pub enum Pending {
     Nothing,
     Making(Primary, u32, u32, u32),
 }
 
 // The object and slot of a task's unfinished Store, until its payment has ended.
-#[derive(Drop)]
+#[derive(Clone, Copy)]
 pub enum Storing {
     Nowhere,
     Slot(Primary, u32),
 }
 
 // What follows when the replica of a looked-at pointer is known.
-#[derive(Drop)]
+#[derive(Clone, Copy)]
 pub enum Then {
     // Store: the old pointer was looked at, the primary is to be written.
     ToWrite(Operand),
@@ -59,7 +59,7 @@ pub enum Then {
 }
 
 // A task's place in its current instruction: what its next step does.
-#[derive(Drop)]
+#[derive(Clone, Copy)]
 pub enum Place {
     Idle,
     // register, L, m
@@ -80,7 +80,7 @@ pub enum Place {
     Placing(Primary, Then),
 }
 
-#[derive(Drop)]
+#[derive(Clone, Copy)]
 pub struct Task {
     pub regs: [Primary; 8],
     pub pending: Pending,
@@ -89,7 +89,7 @@ pub struct Task {
 }
 
 // The numbers that steps move: the next unused word A, the lowest stack word, the jobs in hand J, the copies made.
-#[derive(Drop)]
+#[derive(Clone, Copy)]
 pub struct Marks {
     pub a: u32,
     pub top: u32,
@@ -98,14 +98,14 @@ pub struct Marks {
 }
 
 // Whether the heap lives, or what killed it.
-#[derive(Drop)]
+#[derive(Clone, Copy)]
 pub enum Life {
     Living,
     Spent,
     Broken,
 }
 
-#[derive(Drop)]
+#[derive(Clone, Copy)]
 pub struct Table {
     pub limits: Limits,
     // The space in use is the upper one.
@@ -119,7 +119,7 @@ pub struct Table {
 }
 
 // The refusals 1 to 11, in order.
-#[derive(Drop)]
+#[derive(Clone, Copy)]
 pub enum Refusal {
     WrongLimit,
     NoTask,
@@ -134,7 +134,7 @@ pub enum Refusal {
     Damaged,
 }
 
-#[derive(Drop)]
+#[derive(Clone, Copy)]
 pub enum Answer {
     // Set up, or begun.
     Accepted,
@@ -147,28 +147,28 @@ pub enum Answer {
     No(Refusal),
 }
 
-#[derive(Drop)]
+#[derive(Clone, Copy)]
 pub struct Outcome {
     pub table: Table,
     pub answer: Answer,
 }
 
 // Whether a call may go on to its own tests.
-#[derive(Drop)]
+#[derive(Clone, Copy)]
 pub enum Gate {
     Open,
     Shut(Refusal),
 }
 
 // What a pointer leads to: an object with its L and m, or nothing that can be one.
-#[derive(Drop)]
+#[derive(Clone, Copy)]
 pub enum Object {
     Whole(u32, u32),
     Torn,
 }
 
 // What a look at an object of length L finds: its header is 0 (with L), it is 1, or it is the replica's pointer (with L).
-#[derive(Drop)]
+#[derive(Clone, Copy)]
 pub enum Look {
     White(u32),
     Claimed,
@@ -177,7 +177,7 @@ pub enum Look {
 }
 
 // What a replica's header says: slots still to copy, a locked slot, or what no header can.
-#[derive(Drop)]
+#[derive(Clone, Copy)]
 pub enum Copying {
     Count(u32),
     Locked(u32),
@@ -186,7 +186,7 @@ pub enum Copying {
 
 // What a task holds at its place: it is idle, its New has asked, it is busy and holds nothing, or it has a job
 // (object and slot), a claim, or both (the claim first).
-#[derive(Drop)]
+#[derive(Clone, Copy)]
 pub enum Holding {
     Rests,
     Asks,
@@ -197,7 +197,7 @@ pub enum Holding {
 }
 
 // Whom a search over the tasks looks for.
-#[derive(Drop)]
+#[derive(Clone, Copy)]
 pub enum Sought {
     // The task that claimed this object.
     Claimer(Primary),
@@ -213,7 +213,7 @@ pub enum Sought {
     Busy,
 }
 
-#[derive(Drop)]
+#[derive(Clone, Copy)]
 pub enum Found {
     At(u32),
     Nobody,
@@ -221,7 +221,7 @@ pub enum Found {
 
 // What an action does: its task moves on or its instruction ends, with the pending object as it was or changed;
 // it waits; or it fails.
-#[derive(Drop)]
+#[derive(Clone, Copy)]
 pub enum Deed {
     Goes(Marks, Place),
     GoesWith(Marks, Pending, Place),
@@ -232,14 +232,14 @@ pub enum Deed {
 }
 
 // A replica claimed, or no room for it.
-#[derive(Drop)]
+#[derive(Clone, Copy)]
 pub enum Placed {
     Twin(Marks, Replica),
     Full,
 }
 
 // How a flip's pass stands: it goes on, or it has stopped with a refusal.
-#[derive(Drop)]
+#[derive(Clone, Copy)]
 pub enum Pass {
     On(Marks),
     Stopped(Refusal),

@@ -1,0 +1,82 @@
+-- Demand 2, from the runs in which table and store stand side by side.
+use Rattle.std.specs.Prelude.{ℕ, ◌≡◌, ◌≢◌, List, true, length}
+use Rattle.std.proofs.Common.{sym, ◌∙◌, inl, inr, arith}
+use Rattle.table.specs.declared.Limits.{Limits}
+use Rattle.table.specs.declared.Table.{Table}
+use Rattle.table.specs.declared.Refusal.TheVariants.{Exhausted, Damaged}
+use Rattle.table.specs.declared.Answer.{Answer}
+use Rattle.table.specs.declared.Answer.TheVariants.{No}
+use Rattle.machine.specs.Gate.{sizes_ok}
+use Rattle.machine.specs.Setup.{setup_of}
+use Rattle.machine.specs.Call.{Call}
+use Rattle.machine.specs.Calls.{then, run}
+use Rattle.machine.specs.StillStore.{Store, empty_store, load_answer, same_answer}
+use Rattle.machine.specs.Kinds.{beside}
+use Rattle.machine.specs.History.{no_history, history_of}
+use Rattle.machine.proofs.Beside.Good.{Good}
+use Rattle.machine.proofs.Beside.Start.{fresh_good}
+use Rattle.machine.proofs.Beside.Calls.{load_answers, same_answers}
+use Rattle.machine.proofs.Beside.Run.{Living, Spends, Well, Proceeds, proceeds, good_run}
+
+-- 10 and 11 are not well
+not_damaged : (c : Call) (t : Table) (x : Answer) → Well c t x → x ≢ No Damaged
+not_damaged (Call.New task r len m) t x u e = rw e at u
+not_damaged (Call.Fill task w) t x u e = rw e at u
+not_damaged (Call.FillPointer task r) t x u e = rw e at u
+not_damaged (Call.Load task to from slot) t x u e = rw e at u
+not_damaged (Call.Store task o slot w) t x u e = rw e at u
+not_damaged (Call.StorePointer task o slot r) t x u e = rw e at u
+not_damaged (Call.Move task to from) t x u e = rw e at u
+not_damaged (Call.Clear task r) t x u e = rw e at u
+not_damaged (Call.Same task a b) t x u e = rw e at u
+not_damaged (Call.Put task root r) t x u e = rw e at u
+not_damaged (Call.Get task r root) t x u e = rw e at u
+not_damaged (Call.Step task) t x u e = rw e at u
+not_damaged Call.Report t x u e = rw e at u
+
+pub not_spent : (c : Call) (t : Table) (x : Answer) → Well c t x → x ≢ No Exhausted
+not_spent (Call.New task r len m) t x u e = rw e at u
+not_spent (Call.Fill task w) t x u e = rw e at u
+not_spent (Call.FillPointer task r) t x u e = rw e at u
+not_spent (Call.Load task to from slot) t x u e = rw e at u
+not_spent (Call.Store task o slot w) t x u e = rw e at u
+not_spent (Call.StorePointer task o slot r) t x u e = rw e at u
+not_spent (Call.Move task to from) t x u e = rw e at u
+not_spent (Call.Clear task r) t x u e = rw e at u
+not_spent (Call.Same task a b) t x u e = rw e at u
+not_spent (Call.Put task root r) t x u e = rw e at u
+not_spent (Call.Get task r root) t x u e = rw e at u
+not_spent (Call.Step task) t x u e = rw e at u
+not_spent Call.Report t x u e = rw e at u
+
+module _ (t : Table) (l : Limits) (ws : List ℕ) (accepted : sizes_ok l (length ws) ≡ true) where
+  pub set_up_good : Good l empty_store no_history (setup_of t l ws).out.table (setup_of t l ws).words
+  unfolding setup_of
+  set_up_good = rw accepted (fresh_good l (length ws) accepted)
+
+  module _ (cs : List Call) (living : Living cs (setup_of t l ws)) where
+    pub good_after : Good l (beside cs (setup_of t l ws) empty_store) (history_of cs (setup_of t l ws) no_history) (run cs (setup_of t l ws)).out.table (run cs (setup_of t l ws)).words
+    good_after = good_run l cs (setup_of t l ws) empty_store no_history set_up_good living
+
+    pub load_right : (task to from slot : ℕ)
+        → (then (Call.Load task to from slot) (run cs (setup_of t l ws))).out.answer ≡ load_answer (beside cs (setup_of t l ws) empty_store) l.p task to from slot
+    load_right task to from slot = load_answers good_after task to from slot
+
+    pub same_right : (task a b : ℕ)
+        → (then (Call.Same task a b) (run cs (setup_of t l ws))).out.answer ≡ same_answer (beside cs (setup_of t l ws) empty_store) l.p task a b
+    same_right task a b = same_answers good_after task a b
+
+    pub undamaged : (c : Call) → (then c (run cs (setup_of t l ws))).out.answer ≢ No Damaged
+    undamaged c = on (proceeds l (beside cs (setup_of t l ws) empty_store) (history_of cs (setup_of t l ws) no_history) c (run cs (setup_of t l ws)) good_after)
+      where
+        on : Proceeds l (beside cs (setup_of t l ws) empty_store) (history_of cs (setup_of t l ws) no_history) c (run cs (setup_of t l ws)) → (then c (run cs (setup_of t l ws))).out.answer ≢ No Damaged
+        on (inl h) = λ e. let q : No Exhausted ≡ No Damaged = sym h.0 ∙ e in let z : ◌≡◌ {A = ℕ} 0 1 = cc in absurd (omega arith)
+        on (inr h) = not_damaged c (run cs (setup_of t l ws)).out.table (then c (run cs (setup_of t l ws))).out.answer h.1
+
+    pub spent_for_room : (c : Call) → (then c (run cs (setup_of t l ws))).out.answer ≡ No Exhausted
+        → Spends c (run cs (setup_of t l ws)).out.table (run cs (setup_of t l ws)).words
+    spent_for_room c e = on (proceeds l (beside cs (setup_of t l ws) empty_store) (history_of cs (setup_of t l ws) no_history) c (run cs (setup_of t l ws)) good_after)
+      where
+        on : Proceeds l (beside cs (setup_of t l ws) empty_store) (history_of cs (setup_of t l ws) no_history) c (run cs (setup_of t l ws)) → Spends c (run cs (setup_of t l ws)).out.table (run cs (setup_of t l ws)).words
+        on (inl h) = h.1
+        on (inr h) = absurd (not_spent c (run cs (setup_of t l ws)).out.table (then c (run cs (setup_of t l ws))).out.answer h.1 e)

@@ -1,4 +1,6 @@
 // Refusals, the parts of an entry, and tables with one part changed.
+#![tactic(auto)]
+
 ghost use Rattle.std.specs.Prelude.{◌≡◌, ◌<◌, length, set};
 ghost use Rattle.machine.specs.Entries.{refused as refusedOf, out, with_life, with_place, moved_table, entry, register as register_of};
 ghost use Rattle.table.specs.declared.Answer.TheVariants.{No};
@@ -44,6 +46,7 @@ pub fn refused(t: Table, x: Refusal) -> Outcome
 }
 
 // A task's registers. (That there are eight is told by the contract: a caller cannot see it of an element of an array.)
+#[tactic(auto, using(crate::proofs::Arrays::length_mapped))]
 pub fn registers_of(e: Task) -> [Primary; 8]
     ensures { (result ≡ e.regs) × (length result ≡ 8) }
 {
@@ -68,6 +71,7 @@ pub fn with_register(e: Task, r: usize, p: Primary) -> Task
 }
 
 // One task at another place of its instruction.
+#[tactic(auto, unfolding(machine::specs::Entries::with_place, machine::specs::Entries::with_task))]
 pub fn with_place(t: Table, i: usize, place: Place) -> Table
     requires { i < 8 }
     ensures { result ≡ with_place t i place }
@@ -80,6 +84,7 @@ pub fn with_place(t: Table, i: usize, place: Place) -> Table
 }
 
 // One task moved to a place, with these marks and this pending object.
+#[tactic(auto, unfolding(machine::specs::Entries::moved_table))]
 pub fn moved_table(t: Table, i: usize, m: Marks, pending: Pending, place: Place) -> Table
     requires { i < 8 }
     ensures { result ≡ moved_table t i m pending place }

@@ -1,4 +1,6 @@
 // What every call tests first: limits and buffer (1), the dead number, the table's numbers (11), the task (2), registers (3).
+#![tactic(auto)]
+
 ghost use Rattle.std.specs.Prelude.{◌≡◌, ◌+◌, ◌*◌, ◌≤◌, ◌<◌};
 ghost use Rattle.machine.specs.Basics.{When};
 ghost use Rattle.machine.specs.Words.{bottom_of, end_of};
@@ -8,6 +10,7 @@ ghost use Rattle.machine.specs.Gate.{limits_ok, sizes_ok, marks_ok, gate_of, tas
 
 use table::{Gate, Life, Limits, Marks, Refusal};
 
+#[tactic(auto, using(machine::proofs::Rules::tests), unfolding(machine::specs::Gate::limits_ok))]
 pub fn limits_ok(l: Limits) -> bool
     ensures { (result ≡ limits_ok l) × When result (Limited l) }
 {
@@ -43,6 +46,7 @@ pub fn limits_ok(l: Limits) -> bool
 }
 
 // The limits, and a buffer of exactly 2+2H words.
+#[tactic(auto, using(machine::proofs::Rules::tests), unfolding(machine::specs::Gate::sizes_ok))]
 pub fn sizes_ok(l: Limits, n: usize) -> bool
     ensures { (result ≡ sizes_ok l n) × When result (Sized l n) }
 {
@@ -58,6 +62,7 @@ pub fn sizes_ok(l: Limits, n: usize) -> bool
 }
 
 // The first word of the space in use.
+#[tactic(auto, unfolding(machine::specs::Words::bottom_of))]
 pub fn bottom_of(upper: bool, h: u32) -> u32
     requires { h ≤ 8190 }
     ensures { (result ≡ bottom_of upper h) × (2 ≤ result) × (result ≤ h + 2) }
@@ -69,6 +74,7 @@ pub fn bottom_of(upper: bool, h: u32) -> u32
 }
 
 // The word after the space in use.
+#[tactic(auto, unfolding(machine::specs::Words::end_of))]
 pub fn end_of(upper: bool, h: u32) -> u32
     requires { h ≤ 8190 }
     ensures { (result ≡ end_of upper h) × (result ≤ 2 + 2 * h) }
@@ -77,6 +83,7 @@ pub fn end_of(upper: bool, h: u32) -> u32
 }
 
 // The table's numbers can be.
+#[tactic(auto, using(machine::proofs::Rules::tests), unfolding(machine::specs::Gate::marks_ok))]
 pub fn marks_ok(l: Limits, upper: bool, m: Marks) -> bool
     requires { Limited l }
     ensures { (result ≡ marks_ok l upper m) × When result ((bottom_of upper l.h ≤ m.a) × Fits m (end_of upper l.h) (2 + 2 * l.h)) }
@@ -110,6 +117,7 @@ pub fn marks_ok(l: Limits, upper: bool, m: Marks) -> bool
     true
 }
 
+#[tactic(auto, using(machine::proofs::Rules::tests), unfolding(machine::specs::Gate::gate_of))]
 pub fn gate(l: Limits, life: Life, upper: bool, m: Marks, n: usize) -> Gate
     ensures { (result ≡ gate_of l life upper m n) × Opened result l upper m n }
 {
@@ -134,6 +142,7 @@ pub fn gate(l: Limits, life: Life, upper: bool, m: Marks, n: usize) -> Gate
     Gate::Shut(Refusal::WrongLimit)
 }
 
+#[tactic(auto, using(machine::proofs::Rules::tests), unfolding(machine::specs::Gate::task_gate_of))]
 pub fn task_gate(l: Limits, life: Life, upper: bool, m: Marks, n: usize, task: u32) -> Gate
     ensures { (result ≡ task_gate_of l life upper m n task) × Admitted result l upper m n task }
 {
@@ -151,6 +160,7 @@ pub fn task_gate(l: Limits, life: Life, upper: bool, m: Marks, n: usize, task: u
 }
 
 // The same for a call with two registers or roots.
+#[tactic(auto, using(machine::proofs::Rules::tests), unfolding(machine::specs::Gate::pair_gate_of))]
 pub fn pair_gate(
     l: Limits,
     life: Life,
@@ -179,6 +189,7 @@ pub fn pair_gate(
 }
 
 // What a New may ask for: a register up to 7, L up to S, m up to L.
+#[tactic(auto, using(machine::proofs::Rules::tests), unfolding(machine::specs::Begin::new_ok))]
 pub fn new_ok(s: u32, r: u32, len: u32, m: u32) -> bool
     ensures { (result ≡ new_ok s r len m) × When result ((r < 8) × (len ≤ s) × (m ≤ len)) }
 {

@@ -1,4 +1,6 @@
 // The one check of a pointer, the one look, a replica's header, room, and the words of values.
+#![tactic(auto)]
+
 ghost use Rattle.std.specs.Prelude.{◌≡◌, ◌+◌, ◌≤◌, ◌<◌, length};
 ghost use Rattle.machine.specs.Basics.{When};
 ghost use Rattle.machine.specs.Words.{operand_word, copied_word, descriptor, object_of, look_of, copying_of, room_of, room_for};
@@ -15,6 +17,7 @@ pub fn descriptor_of(len: u32, m: u32) -> u32
 }
 
 // What the pointer leads to.
+#[tactic(auto, using(machine::proofs::Rules::tests), unfolding(machine::specs::Words::object_of))]
 pub fn object_at(words: &[u32], s: u32, p: Primary) -> Object
     ensures { (result ≡ object_of words.now s p) × Stands result s p.0 (length words.now) }
 {
@@ -42,6 +45,7 @@ pub fn object_at(words: &[u32], s: u32, p: Primary) -> Object
 }
 
 // What a look at the object finds.
+#[tactic(auto, using(machine::proofs::Rules::tests), unfolding(machine::specs::Words::look_of))]
 pub fn look_at(words: &[u32], s: u32, p: Primary) -> Look
     ensures { (result ≡ look_of words.now s p) × Reaches result s p.0 (length words.now) }
 {
@@ -71,6 +75,7 @@ pub fn look_at(words: &[u32], s: u32, p: Primary) -> Look
 }
 
 // What the header h of a replica of length len says.
+#[tactic(auto, using(machine::proofs::Rules::tests), unfolding(machine::specs::Words::copying_of))]
 pub fn copying(len: u32, h: u32) -> Copying
     ensures { (result ≡ copying_of len h) × Counts result len }
 {
@@ -87,6 +92,7 @@ pub fn copying(len: u32, h: u32) -> Copying
 }
 
 // Whether there is room for so many words.
+#[tactic(auto, using(machine::proofs::Rules::tests), unfolding(machine::specs::Words::room_for))]
 pub fn room_for(on: bool, m: Marks, end: u32, need: u32) -> bool
     requires { (m.a + m.j ≤ m.top) × (m.top ≤ end) }
     ensures { (result ≡ room_for on m end need) × When result (need ≤ room_of on m end) }

@@ -1,4 +1,6 @@
 // What a task holds, and whether it is sought.
+#![tactic(auto)]
+
 ghost use Rattle.std.specs.Prelude.{◌≡◌, not, eqb};
 ghost use Rattle.machine.specs.Tasks.{look_holds, place_holds, holding_of, idle_of, asks_of, claims_of, works_of, blocks_of, claim_is, job_is, slot_is};
 ghost use Rattle.machine.specs.Tasks.{sought_of, sought_task, store_there};
@@ -28,6 +30,7 @@ fn place_holds(p: Primary, t: Then) -> Holding
 }
 
 // What a task at this place holds.
+#[tactic(auto, unfolding(machine::specs::Tasks::holding_of))]
 pub fn holding(place: Place) -> Holding
     ensures { result ≡ holding_of place }
 {
@@ -63,6 +66,7 @@ pub fn idle(place: Place) -> bool
     }
 }
 
+#[tactic(auto, using(machine::proofs::Rules::tests))]
 fn same_slot(y: Primary, k: u32, x: Primary, i: u32) -> bool
     ensures { result ≡ slot_is y k x i }
 {
@@ -155,6 +159,7 @@ fn claim_is(q: Primary, h: Holding) -> bool
     }
 }
 
+#[tactic(auto, using(machine::proofs::Rules::tests))]
 fn same_object(p: Primary, q: Primary) -> bool
     ensures { result ≡ eqb p.0 q.0 }
 {
@@ -178,6 +183,7 @@ fn job_is(y: Primary, k: u32, h: Holding) -> bool
 }
 
 // Task i, which holds h, is sought.
+#[tactic(auto, using(machine::proofs::Rules::tests), unfolding(machine::specs::Tasks::sought_of))]
 fn sought(w: Sought, i: u32, h: Holding) -> bool
     ensures { result ≡ sought_of w i h }
 {
@@ -212,6 +218,7 @@ pub fn task_sought(w: Sought, i: u32, e: Task) -> bool
 }
 
 // Task i is another than me, and its unfinished Store is on this object and slot.
+#[tactic(auto, using(machine::proofs::Rules::tests))]
 pub fn store_there(me: u32, y: Primary, k: u32, i: u32, e: Task) -> bool
     ensures { result ≡ store_there me y k i e }
 {

@@ -1,5 +1,7 @@
 // The script program's answers: an answer written as a line. It works on bytes that the caller lends, so that nothing
 // here writes a file.
+#![tactic(auto)]
+
 ghost use Rattle.std.specs.Prelude.{◌≡◌, ◌+◌, ◌≤◌, length};
 ghost use Rattle.answers.specs.Text.{answer_text, unreadable_text, wrote, written};
 
@@ -8,6 +10,7 @@ mod writer;
 use table::Answer;
 
 // Puts the line of an answer into out from `at` on, and answers the index past it.
+#[tactic(auto, using(crate::proofs::Put::wrote_next), unfolding(crate::specs::Text::answer_text))]
 pub fn write_answer(answer: Answer, out: &mut [u8], at: usize) -> usize
     requires { at + 40 ≤ length out.old }
     ensures out_after { wrote result out.new ≡ written (answer_text answer) out.old at }
@@ -25,6 +28,7 @@ pub fn write_answer(answer: Answer, out: &mut [u8], at: usize) -> usize
 }
 
 // The same for a line that cannot be read.
+#[tactic(auto, using(crate::proofs::Put::wrote_next), unfolding(crate::specs::Text::unreadable_text))]
 pub fn write_unreadable(out: &mut [u8], at: usize) -> usize
     requires { at + 40 ≤ length out.old }
     ensures out_after { wrote result out.new ≡ written unreadable_text out.old at }

@@ -1,4 +1,6 @@
 // The actions of a payment that copy: put, release.
+#![tactic(auto)]
+
 ghost use Rattle.std.specs.Prelude.{◌≡◌, ◌≤◌, length};
 ghost use Rattle.machine.specs.Bounds.{Fits};
 ghost use Rattle.machine.specs.Deeds.{acted};
@@ -7,6 +9,7 @@ ghost use Rattle.machine.specs.Pay.{put_of, paid as paidOf, release_of};
 use table::{Copied, Deed, Look, Marks, Place, Primary, Refusal};
 
 // Pay: the replica's slot is written.
+#[tactic(auto, using(machine::proofs::Rules::tests, objects::proofs::Unforwarded::unforwarded), unfolding(machine::specs::Pay::put_of))]
 pub fn put(m: Marks, words: &mut [u32], s: u32, n: u32, x: Primary, i: u32, c: Copied) -> Deed
     ensures { acted result words.new ≡ put_of m words.old s n x i c }
 {
@@ -24,6 +27,7 @@ pub fn put(m: Marks, words: &mut [u32], s: u32, n: u32, x: Primary, i: u32, c: C
 }
 
 // The last copy ends the payment.
+#[tactic(auto, using(machine::proofs::Rules::tests))]
 fn paid(m: Marks, n: u32) -> Deed
     requires { 1 ≤ n }
     ensures { result ≡ paidOf m n }
@@ -35,6 +39,7 @@ fn paid(m: Marks, n: u32) -> Deed
 }
 
 // Pay: the slot is released, and the object pushed back if slots are left.
+#[tactic(auto, using(machine::proofs::Rules::tests, objects::proofs::Unforwarded::unforwarded), unfolding(machine::specs::Pay::release_of))]
 pub fn release(m: Marks, words: &mut [u32], s: u32, n: u32, x: Primary, i: u32) -> Deed
     requires { Fits m m.top (length words.old) }
     ensures { acted result words.new ≡ release_of m words.old s n x i }

@@ -1,4 +1,6 @@
 // The actions of a Fill: the primary's slot, then the replica's.
+#![tactic(auto)]
+
 ghost use Rattle.std.specs.Prelude.{◌≡◌};
 ghost use Rattle.table.specs.declared.Then.TheVariants.{ToFillCopy};
 ghost use Rattle.table.specs.declared.Place.TheVariants.{FillCopy};
@@ -9,6 +11,7 @@ ghost use Rattle.machine.specs.Fill.{fill_write_of, fill_copy_of};
 use table::{Copied, Deed, Look, Marks, Object, Operand, Pending, Place, Refusal, Replica, Then};
 
 // A Fill whose value is known: a non-nil pointer is looked at.
+#[tactic(auto, using(machine::proofs::Rules::tests))]
 fn fill_ahead(v: Operand) -> Place
     ensures { result ≡ look_ahead v ToFillCopy FillCopy }
 {
@@ -24,6 +27,7 @@ fn fill_ahead(v: Operand) -> Place
 }
 
 // Fill: the next slot of the pending object is written; off, it counts and the Fill ends.
+#[tactic(auto, using(machine::proofs::Rules::tests), unfolding(machine::specs::Fill::fill_write_of))]
 pub fn fill_write(
     on: bool,
     m: Marks,
@@ -55,6 +59,7 @@ pub fn fill_write(
 }
 
 // Fill: the slot of the replica is written, and counted; then pay k.
+#[tactic(auto, using(machine::proofs::Rules::tests, objects::proofs::Unforwarded::unforwarded), unfolding(machine::specs::Fill::fill_copy_of))]
 pub fn fill_copy(m: Marks, words: &mut [u32], s: u32, k: u32, pending: Pending, c: Copied) -> Deed
     ensures { acted result words.new ≡ fill_copy_of m words.old s k pending c }
 {

@@ -1,4 +1,6 @@
 // Look and place, each once, with what follows as data.
+#![tactic(auto)]
+
 ghost use Rattle.std.specs.Prelude.{◌≡◌, ◌+◌, ◌≤◌, length};
 ghost use Rattle.machine.specs.Words.{laid};
 ghost use Rattle.machine.specs.Bounds.{Fits, Reaches, Roomy};
@@ -38,6 +40,7 @@ fn unplaced(m: Marks, words: &mut [u32], s: u32, p: Primary, then: Then, k: Look
     }
 }
 
+#[tactic(auto, using(objects::proofs::Unforwarded::unforwarded), unfolding(machine::specs::Look::look_step_of))]
 pub fn look_step(m: Marks, words: &mut [u32], s: u32, p: Primary, then: Then) -> Deed
     ensures { acted result words.new ≡ look_step_of m words.old s p then }
 {
@@ -60,6 +63,7 @@ pub fn lay(words: &mut [u32], at: usize, d: u32, h: u32)
 
 // A replica of the object at p is claimed, with its descriptor and the count of slots to copy; the primary is forwarded,
 // and pushed where there are slots to copy.
+#[tactic(auto, using(machine::proofs::Rules::tests, crate::proofs::Laid::below_laid), unfolding(machine::specs::Look::place_of))]
 pub fn place(m: Marks, end: u32, words: &mut [u32], p: Primary, len: u32, count: u32) -> Placed
     requires { Fits m end (length words.old) × (4 ≤ p.0) × (p.0 ≤ length words.old) × (len ≤ 255) }
     ensures { (placed_in result words.new ≡ place_of m end words.old p len count) × Roomy result end (length words.old) }
@@ -105,6 +109,7 @@ pub fn place(m: Marks, end: u32, words: &mut [u32], p: Primary, len: u32, count:
     Placed::Full
 }
 
+#[tactic(auto, unfolding(machine::specs::Look::place_step_of))]
 pub fn place_step(m: Marks, end: u32, words: &mut [u32], s: u32, p: Primary, then: Then) -> Deed
     requires { Fits m end (length words.old) × (s ≤ 255) }
     ensures { acted result words.new ≡ place_step_of m end words.old s p then }

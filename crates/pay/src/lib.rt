@@ -1,4 +1,6 @@
 // The actions of a payment that find what to copy: take, read.
+#![tactic(auto)]
+
 ghost use Rattle.std.specs.Prelude.{◌≡◌, ◌≤◌, ◌<◌, length};
 ghost use Rattle.table.specs.declared.Then.TheVariants.{ToPut};
 ghost use Rattle.table.specs.declared.Place.TheVariants.{Put};
@@ -12,6 +14,7 @@ use table::{
 };
 
 // A copy whose value is known: a non-nil pointer is looked at.
+#[tactic(auto, using(machine::proofs::Rules::tests))]
 fn put_ahead(v: Operand, n: u32, x: Primary, i: u32) -> Place
     ensures { result ≡ look_ahead v (ToPut n x i) (Put n x i) }
 {
@@ -27,6 +30,7 @@ fn put_ahead(v: Operand, n: u32, x: Primary, i: u32) -> Place
 }
 
 // Pay: the object on top of the stack is popped, and its slot count-1 locked.
+#[tactic(auto, using(machine::proofs::Rules::tests, objects::proofs::Unforwarded::unforwarded), unfolding(machine::specs::Pay::take_of))]
 pub fn take(m: Marks, words: &mut [u32], s: u32, n: u32) -> Deed
     requires { Fits m m.top (length words.old) × (m.top < length words.old) × (s ≤ 255) }
     ensures { acted result words.new ≡ take_of m words.old s n }
@@ -63,6 +67,7 @@ pub fn take(m: Marks, words: &mut [u32], s: u32, n: u32) -> Deed
 }
 
 // Pay: the primary slot is read.
+#[tactic(auto, using(machine::proofs::Rules::tests), unfolding(machine::specs::Pay::read_of))]
 pub fn read(m: Marks, words: &[u32], s: u32, n: u32, x: Primary, i: u32) -> Deed
     ensures { acted result words.now ≡ read_of m words.now s n x i }
 {

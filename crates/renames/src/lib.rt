@@ -1,4 +1,6 @@
 // Pointers made new through their replicas: the shared roots, and the pending pointers and registers of the tasks.
+#![tactic(auto)]
+
 ghost use Rattle.std.specs.Prelude.{◌≡◌, ◌≤◌, take};
 ghost use Rattle.machine.specs.Basics.{all_of, first_of, When};
 ghost use Rattle.machine.specs.Switch.{new_name, has_replica, new_entry, entry_has_replicas};
@@ -32,6 +34,7 @@ pub struct Entries {
     pub tasks: [Task; 8],
 }
 
+#[tactic(auto, using(machine::proofs::Rules::tests, objects::proofs::Unforwarded::not_forwarded), unfolding(machine::specs::Switch::has_replica, machine::specs::Switch::new_name))]
 fn new_name(words: &[u32], s: u32, p: Primary) -> Renamed
     ensures { Names result words.now s p }
 {
@@ -46,6 +49,7 @@ fn new_name(words: &[u32], s: u32, p: Primary) -> Renamed
     Renamed::To(Primary(r.0))
 }
 
+#[tactic(auto, unfolding(machine::specs::Switch::new_pending, machine::specs::Switch::pending_has_replica))]
 fn new_pending(words: &[u32], s: u32, d: Pending) -> Remade
     ensures { Remakes result words.now s d }
 {
@@ -60,6 +64,7 @@ fn new_pending(words: &[u32], s: u32, d: Pending) -> Remade
 }
 
 // The shared roots.
+#[tactic(auto, using(crate::proofs::Rows::begins, crate::proofs::Rows::goes_on, crate::proofs::Rows::stops, crate::proofs::Rows::ends))]
 pub fn roots(words: &[u32], s: u32, olds: [Primary; 8]) -> Row
     ensures { (result.good ≡ all_of (has_replica words.now s) (take 8 olds)) × When result.good (result.qs ≡ first_of 8 (new_name words.now s) olds) }
 {
@@ -83,6 +88,7 @@ pub fn roots(words: &[u32], s: u32, olds: [Primary; 8]) -> Row
 }
 
 // The pending pointer and the registers of each of the first p tasks.
+#[tactic(auto, using(crate::proofs::Rows::begins, crate::proofs::Rows::goes_on, crate::proofs::Rows::stops, crate::proofs::Rows::ends, crate::proofs::Rows::entry_good, crate::proofs::Rows::entry_lost, crate::proofs::Rows::entry_gone, crate::proofs::Rows::entry_new))]
 pub fn all_entries(words: &[u32], s: u32, p: usize, tasks: [Task; 8]) -> Entries
     requires { p ≤ 8 }
     ensures { (result.good ≡ all_of (entry_has_replicas words.now s) (take p tasks)) × When result.good (result.tasks ≡ first_of p (new_entry words.now s) tasks) }

@@ -1,5 +1,7 @@
 // The script program's lines: a record read as a call. It works on bytes that the caller lends, so that nothing here
 // reads a file.
+#![tactic(auto)]
+
 ghost use Rattle.std.specs.Prelude.{◌≡◌};
 ghost use Rattle.script.specs.Line.{line_of};
 
@@ -41,6 +43,7 @@ pub enum Said {
 }
 
 // What a line says; the line is without its newline.
+#[tactic(auto, using(crate::proofs::Names::bytes_of, crate::proofs::Whole::no_name, crate::proofs::Whole::name_end, crate::proofs::Whole::whole))]
 pub fn read_line(line: &[u8]) -> Said
     ensures { result ≡ line_of line.now }
 {

@@ -1,4 +1,6 @@
 // Set-up and report.
+#![tactic(auto)]
+
 ghost use Rattle.std.specs.Prelude.{◌≡◌, ◌≤◌, length, replicate};
 ghost use Rattle.machine.specs.Entries.{ends};
 ghost use Rattle.machine.specs.Setup.{limits, fresh_task, fresh_table, unset as unsetTable};
@@ -23,6 +25,7 @@ fn clear(words: &mut [u32])
 
 // Eight idle tasks, the first n of them set one by one. (It calls itself so that it stays a call of its own in the
 // compiled program: written out there, entry by entry, it takes apart every table that the line loop copies.)
+#[tactic(auto, using(crate::proofs::Same::set_replicate))]
 fn idle_tasks(n: usize) -> [Task; 8]
     requires { n ≤ 8 }
     ensures { result ≡ replicate 8 fresh_task }
@@ -77,6 +80,7 @@ pub fn unset() -> Table
 }
 
 // Set-up of the heap in the lent buffer. One that is refused gives the table t back.
+#[tactic(auto, using(machine::proofs::Rules::tests), unfolding(machine::specs::Setup::setup_of))]
 pub fn setup(t: Table, p: u32, s: u32, h: u32, k: u32, words: &mut [u32]) -> Outcome
     ensures { MeetsSetup (limits p s h k) t words.old (ends result words.new) }
 {
@@ -99,6 +103,7 @@ pub fn setup(t: Table, p: u32, s: u32, h: u32, k: u32, words: &mut [u32]) -> Out
 }
 
 // Whether the collector is on, the words from the bottom of the space in use up to A, the copies of the latest collection.
+#[tactic(auto, unfolding(machine::specs::Setup::report_of))]
 pub fn report(t: Table, words: &[u32]) -> Outcome
     ensures { Meets Call.Report t words.now (ends result words.now) }
 {

@@ -1,4 +1,6 @@
 // The actions of a Store behind the look at the old pointer: the primary's slot, meet, the replica's slot.
+#![tactic(auto)]
+
 ghost use Rattle.std.specs.Prelude.{◌≡◌};
 ghost use Rattle.table.specs.declared.Then.TheVariants.{ToStoreCopy};
 ghost use Rattle.table.specs.declared.Place.TheVariants.{StoreCopy};
@@ -12,6 +14,7 @@ use table::{
 };
 
 // A Store whose value is known: a non-nil pointer is looked at.
+#[tactic(auto, using(machine::proofs::Rules::tests))]
 fn store_ahead(v: Operand) -> Place
     ensures { result ≡ look_ahead v ToStoreCopy StoreCopy }
 {
@@ -27,6 +30,7 @@ fn store_ahead(v: Operand) -> Place
 }
 
 // Store: the primary slot is written; off, the Store ends.
+#[tactic(auto, using(machine::proofs::Rules::tests), unfolding(machine::specs::Store::store_write_of))]
 pub fn store_write(
     on: bool,
     m: Marks,
@@ -69,6 +73,7 @@ fn unmet(m: Marks, k: u32, x: Primary, seen: Look) -> Deed
 }
 
 // Store: meet the copier.
+#[tactic(auto, using(machine::proofs::Rules::tests, objects::proofs::Unforwarded::unforwarded), unfolding(machine::specs::Store::meet_of))]
 pub fn meet(m: Marks, words: &[u32], s: u32, k: u32, storing: Storing, v: Operand) -> Deed
     ensures { acted result words.now ≡ meet_of m words.now s k storing v }
 {
@@ -98,6 +103,7 @@ pub fn meet(m: Marks, words: &[u32], s: u32, k: u32, storing: Storing, v: Operan
 }
 
 // Store: the slot of the replica is written; then pay k.
+#[tactic(auto, using(machine::proofs::Rules::tests, objects::proofs::Unforwarded::unforwarded), unfolding(machine::specs::Store::store_copy_of))]
 pub fn store_copy(m: Marks, words: &mut [u32], s: u32, k: u32, storing: Storing, c: Copied) -> Deed
     ensures { acted result words.new ≡ store_copy_of m words.old s k storing c }
 {

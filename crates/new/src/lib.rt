@@ -1,4 +1,6 @@
 // The steps of a New that is not yet claimed, off and collecting; and what a step comes to, as data.
+#![tactic(auto)]
+
 ghost use Rattle.std.specs.Prelude.{◌≡◌, length};
 ghost use Rattle.table.specs.declared.Deed.TheVariants.{Fails};
 ghost use Rattle.machine.specs.Bounds.{Sound};
@@ -28,6 +30,7 @@ pub fn failing(x: Refusal) -> Act
 }
 
 // New while the collector is off: it claims, or asks for a flip.
+#[tactic(auto, unfolding(crate::specs::Acts::new_off_act))]
 pub fn new_off(
     l: Limits,
     upper: bool,
@@ -62,6 +65,7 @@ pub fn new_off(
 }
 
 // New while collecting: it claims twice, primary first, and then pays 2k; with less room it is refused.
+#[tactic(auto, using(look::proofs::Laid::length_laid), unfolding(crate::specs::Acts::new_on_act))]
 pub fn new_on(
     l: Limits,
     upper: bool,

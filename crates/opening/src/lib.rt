@@ -1,4 +1,6 @@
 // What the calls of a task test after the gate: out of turn (6), held (7), and whether a slot takes what is given (5).
+#![tactic(auto)]
+
 ghost use Rattle.std.specs.Prelude.{◌≡◌, ◌≤◌, ltb};
 ghost use Rattle.machine.specs.Bounds.{Paired};
 ghost use Rattle.machine.specs.Words.{end_of};
@@ -48,6 +50,7 @@ pub fn held(l: Limits, upper: bool, on: bool, m: Marks, tasks: [Task; 8]) -> boo
 }
 
 // A pointer is given for a pointer slot, or a plain word for a plain one.
+#[tactic(auto, using(machine::proofs::Rules::tests))]
 pub fn right_kind(v: Operand, slot: u32, m: u32) -> bool
     ensures { result ≡ same_test (is_pointer v) (ltb slot m) }
 {

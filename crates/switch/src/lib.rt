@@ -1,4 +1,6 @@
 // The end of an instruction, and the switch-over: the entries change, the words do not.
+#![tactic(auto)]
+
 ghost use Rattle.std.specs.Prelude.{◌≡◌, ◌≤◌, ◌<◌, set};
 ghost use Rattle.machine.specs.Entries.{ends};
 ghost use Rattle.machine.specs.Switch.{switch_of, switch_due, ended_entry, finish_of};
@@ -8,6 +10,7 @@ use table::{
 };
 
 // t, the table after the action, switched over; or `came`, the table before it, dead for a pointer without replica.
+#[tactic(auto, unfolding(machine::specs::Switch::switch_of))]
 fn switch_over(came: Table, t: Table, words: &[u32], x: Answer) -> Outcome
     requires { t.limits.p ≤ 8 }
     ensures { result ≡ switch_of came t words.now x }
@@ -39,6 +42,7 @@ fn switch_over(came: Table, t: Table, words: &[u32], x: Answer) -> Outcome
 }
 
 // The collector on, nothing grey and all tasks idle.
+#[tactic(auto, unfolding(machine::specs::Switch::switch_due))]
 fn switch_due(t: Table) -> bool
     requires { (t.limits.p ≤ 8) × (t.limits.h ≤ 8190) }
     ensures { result ≡ switch_due t }
@@ -73,6 +77,7 @@ fn with_pointer(regs: [Primary; 8], r: u32, p: Primary) -> [Primary; 8]
 }
 
 // The task idle; a pending object with all its slots filled goes to its register.
+#[tactic(auto, using(machine::proofs::Rules::tests))]
 pub fn ended_entry(e: Task, pending: Pending) -> Task
     ensures { result ≡ ended_entry e.regs pending }
 {
@@ -105,6 +110,7 @@ pub fn ended_entry(e: Task, pending: Pending) -> Task
 }
 
 // The instruction of task i ends in this step, with an answer: the action left these marks and this pending object.
+#[tactic(auto, unfolding(machine::specs::Switch::finish_of))]
 pub fn finish(t: Table, words: &[u32], i: usize, m: Marks, pending: Pending, x: Answer) -> Outcome
     requires { (i < 8) × (t.limits.p ≤ 8) × (t.limits.h ≤ 8190) }
     ensures { ends result words.now ≡ finish_of t words.now i m pending x }

@@ -1,4 +1,6 @@
 // A flip's visits: the pending objects, the roots and the registers, each white object placed.
+#![tactic(auto)]
+
 ghost use Rattle.std.specs.Prelude.{◌≡◌, ◌≤◌, length, take};
 ghost use Rattle.machine.specs.Bounds.{Fits, Passes};
 ghost use Rattle.machine.specs.Flip.{went, placing, visit_of, visit_pending_of, pass_of, pending_pass, register_pass};
@@ -18,6 +20,7 @@ fn place(m: Marks, end: u32, words: &mut [u32], p: Primary, len: u32, count: u32
 }
 
 // A root or a register: a non-nil white object is placed.
+#[tactic(auto, using(machine::proofs::Rules::tests), unfolding(machine::specs::Flip::visit_of))]
 fn visit(m: Marks, words: &mut [u32], end: u32, s: u32, p: Primary) -> Pass
     requires { Fits m end (length words.old) × (s ≤ 255) }
     ensures { (went result words.new ≡ visit_of end s p m words.old) × Passes result end (length words.old) }
@@ -36,6 +39,7 @@ fn visit(m: Marks, words: &mut [u32], end: u32, s: u32, p: Primary) -> Pass
 }
 
 // A pending object: its replica has the filled slots to copy.
+#[tactic(auto, using(machine::proofs::Rules::tests), unfolding(machine::specs::Flip::visit_pending_of))]
 fn visit_pending(m: Marks, words: &mut [u32], end: u32, s: u32, pending: Pending) -> Pass
     requires { Fits m end (length words.old) × (s ≤ 255) }
     ensures { (went result words.new ≡ visit_pending_of end s pending m words.old) × Passes result end (length words.old) }
@@ -58,6 +62,7 @@ fn visit_pending(m: Marks, words: &mut [u32], end: u32, s: u32, pending: Pending
 }
 
 // The pending objects of the first p tasks.
+#[tactic(auto, using(crate::proofs::Turns::begins_first, crate::proofs::Turns::goes_on, crate::proofs::Turns::stops, crate::proofs::Turns::ends))]
 pub fn pendings(m: Marks, words: &mut [u32], end: u32, s: u32, p: usize, tasks: [Task; 8]) -> Pass
     requires { Fits m end (length words.old) × (s ≤ 255) × (p ≤ 8) }
     ensures { (went result words.new ≡ pass_of (pending_pass end s) (take p tasks) m words.old) × Passes result end (length words.old) }
@@ -80,6 +85,7 @@ pub fn pendings(m: Marks, words: &mut [u32], end: u32, s: u32, p: usize, tasks: 
 }
 
 // The shared roots.
+#[tactic(auto, using(crate::proofs::Turns::begins, crate::proofs::Turns::goes_on, crate::proofs::Turns::stops, crate::proofs::Turns::ends))]
 pub fn roots(m: Marks, words: &mut [u32], end: u32, s: u32, qs: [Primary; 8]) -> Pass
     requires { Fits m end (length words.old) × (s ≤ 255) }
     ensures { (went result words.new ≡ pass_of (visit_of end s) qs m words.old) × Passes result end (length words.old) }
@@ -101,6 +107,7 @@ pub fn roots(m: Marks, words: &mut [u32], end: u32, s: u32, qs: [Primary; 8]) ->
 }
 
 // The registers of the first p tasks: the loop over the tasks is left from inside, with the refusal.
+#[tactic(auto, using(crate::proofs::Turns::begins, crate::proofs::Turns::begins_first, crate::proofs::Turns::goes_on, crate::proofs::Turns::stops, crate::proofs::Turns::ends))]
 pub fn registers(m: Marks, words: &mut [u32], end: u32, s: u32, p: usize, tasks: [Task; 8]) -> Pass
     requires { Fits m end (length words.old) × (s ≤ 255) × (p ≤ 8) }
     ensures { (went result words.new ≡ pass_of (register_pass end s) (take p tasks) m words.old) × Passes result end (length words.old) }

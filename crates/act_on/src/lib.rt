@@ -1,4 +1,6 @@
 // The step of a task while collecting, from its entry and the words alone.
+#![tactic(auto)]
+
 ghost use Rattle.std.specs.Prelude.{◌≡◌, length};
 ghost use Rattle.machine.specs.Bounds.{Sound};
 ghost use Rattle.machine.specs.Words.{end_of};
@@ -9,6 +11,7 @@ use new::Act;
 use table::{Limits, Marks, Place, Refusal, Task};
 
 // Collecting: each item is one step.
+#[tactic(auto, unfolding(crate::specs::On::on_act))]
 pub fn on_act(l: Limits, upper: bool, m: Marks, words: &mut [u32], e: Task) -> Act
     requires { Sound l upper m (length words.old) }
     ensures { came result words.new ≡ on_act l m (end_of upper l.h) words.old e e.place }

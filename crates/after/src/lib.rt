@@ -1,4 +1,6 @@
 // What an act leaves of its task's entry and of the marks: of most acts that is all, and the table need not go whole.
+#![tactic(auto)]
+
 ghost use Rattle.std.specs.Prelude.{◌≡◌};
 ghost use Rattle.after.specs.Left.{quiet_of, after_deed, after_of};
 
@@ -15,6 +17,7 @@ pub struct After {
 }
 
 // The collector is on and the stack and the tasks' hands are empty: the end of an instruction may bring the switch-over.
+#[tactic(auto, using(machine::proofs::Rules::tests), unfolding(crate::specs::Left::quiet_of))]
 fn quiet(on: bool, m: Marks, end: u32) -> bool
     ensures { result ≡ quiet_of on m end }
 {
@@ -32,6 +35,7 @@ fn quiet(on: bool, m: Marks, end: u32) -> bool
     false
 }
 
+#[tactic(auto, unfolding(crate::specs::Left::after_deed))]
 fn after_deed(on: bool, m: Marks, end: u32, e: Task, d: Deed) -> After
     ensures { result ≡ after_deed on m end e d }
 {
@@ -89,6 +93,7 @@ fn after_deed(on: bool, m: Marks, end: u32, e: Task, d: Deed) -> After
 }
 
 // What an act leaves of entry e, in a space that ends at `end`.
+#[tactic(auto, unfolding(crate::specs::Left::after_of))]
 pub fn after_act(on: bool, m: Marks, end: u32, e: Task, a: Act) -> After
     ensures { result ≡ after_of on m end e a }
 {

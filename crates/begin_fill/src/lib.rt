@@ -1,4 +1,6 @@
 // Begin of Fill with a plain word, and what that with a pointer shares: no word is written, and the task's first place is recorded.
+#![tactic(auto)]
+
 ghost use Rattle.std.specs.Prelude.{◌≡◌};
 ghost use Rattle.machine.specs.Entries.{entry, ends};
 ghost use Rattle.table.specs.declared.Place.TheVariants.{FillWrite};
@@ -9,6 +11,7 @@ ghost use Rattle.begin_fill.specs.Gate.{fill_gate_of};
 use table::{Answer, Gate, Object, Operand, Outcome, Pending, Place, Refusal, Table, Task};
 
 // The tests of a Fill behind the opening: `no` says that the heap is held; the next slot of the pending object takes v.
+#[tactic(auto, using(machine::proofs::Rules::tests), unfolding(crate::specs::Gate::fill_gate_of))]
 pub fn fill_gate(words: &[u32], s: u32, no: bool, e: Task, v: Operand) -> Gate
     ensures { result ≡ fill_gate_of words.now s no v e.pending }
 {
@@ -43,6 +46,7 @@ pub fn begun(e: Task, v: Operand) -> Task
     }
 }
 
+#[tactic(auto, using(opening::proofs::Opens::admitted, opening::proofs::Opens::by_opening, opening::proofs::Opens::no_register, crate::proofs::Opens::by_gate), unfolding(machine::specs::Begin::begin_fill_of, machine::specs::Begin::fill_from, machine::specs::Entries::with_place, machine::specs::Entries::with_task))]
 pub fn begin_fill(t: Table, words: &[u32], task: u32, word: u32) -> Outcome
     ensures { Meets (Call.Fill task word) t words.now (ends result words.now) }
 {

@@ -1,4 +1,6 @@
 // Begin of New: no word is written, and the task's first place is recorded.
+#![tactic(auto)]
+
 ghost use Rattle.std.specs.Prelude.{◌≡◌};
 ghost use Rattle.machine.specs.Bounds.{Admitted};
 ghost use Rattle.machine.specs.Gate.{task_gate_of};
@@ -56,6 +58,7 @@ fn begun(e: Task, r: u32, len: u32, m: u32) -> Task
     }
 }
 
+#[tactic(auto, using(crate::proofs::Opens::admitted, crate::proofs::Opens::by_gate), unfolding(machine::specs::Begin::begin_new_of, machine::specs::Entries::with_place, machine::specs::Entries::with_task))]
 pub fn begin_new(t: Table, words: &[u32], task: u32, r: u32, len: u32, m: u32) -> Outcome
     ensures { Meets (Call.New task r len m) t words.now (ends result words.now) }
 {

@@ -1,4 +1,6 @@
 // Begin of Store of a plain word, and what that of a pointer shares: no word is written, and the task's first place is recorded.
+#![tactic(auto)]
+
 ghost use Rattle.std.specs.Prelude.{◌≡◌, ◌+◌, ◌<◌, length, get_or};
 ghost use Rattle.machine.specs.Entries.{entry, ends};
 ghost use Rattle.machine.specs.Begin.{store_place};
@@ -12,6 +14,7 @@ use table::{
 };
 
 // The tests of a Store behind the opening: `no` says that the heap is held, `taken` that another task's Store is on the slot.
+#[tactic(auto, unfolding(crate::specs::Gate::store_gate_of))]
 pub fn store_gate(
     words: &[u32],
     s: u32,
@@ -48,6 +51,7 @@ pub fn store_gate(
 }
 
 // The first place of a Store: while collecting, a non-nil old pointer is looked at first.
+#[tactic(auto, using(machine::proofs::Rules::tests))]
 fn store_place(on: bool, old: u32, v: Operand) -> Place
     ensures { result ≡ store_place on old v }
 {
@@ -80,6 +84,7 @@ pub fn begun(e: Task, words: &[u32], on: bool, x: Primary, slot: u32, v: Operand
     }
 }
 
+#[tactic(auto, using(opening::proofs::Opens::admitted, opening::proofs::Opens::by_opening, opening::proofs::Opens::one_register, crate::proofs::Opens::by_gate), unfolding(machine::specs::Begin::begin_store_of, machine::specs::Begin::store_from, machine::specs::Entries::with_task))]
 pub fn begin_store(t: Table, words: &[u32], task: u32, object: u32, slot: u32, word: u32) -> Outcome
     ensures { Meets (Call.Store task object slot word) t words.now (ends result words.now) }
 {

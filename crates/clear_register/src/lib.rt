@@ -1,4 +1,6 @@
 // Clear, which makes a register nil; it completes at once.
+#![tactic(auto)]
+
 ghost use Rattle.machine.specs.Entries.{ends};
 ghost use Rattle.machine.specs.Call.{Call};
 ghost use Rattle.machine.specs.Calls.{Meets};
@@ -6,6 +8,7 @@ ghost use Rattle.machine.specs.Calls.{Meets};
 use table::{Answer, Gate, Outcome, Primary, Table};
 
 // A register becomes nil.
+#[tactic(auto, using(opening::proofs::Opens::admitted, opening::proofs::Opens::by_opening), unfolding(machine::specs::Complete::clear_of, machine::specs::Entries::with_register, machine::specs::Entries::with_task))]
 pub fn clear_register(t: Table, words: &[u32], task: u32, r: u32) -> Outcome
     ensures { Meets (Call.Clear task r) t words.now (ends result words.now) }
 {

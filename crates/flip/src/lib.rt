@@ -1,4 +1,6 @@
 // The flip, one step: the pending objects, then the roots, then the registers task by task; and the table after them.
+#![tactic(auto)]
+
 ghost use Rattle.std.specs.Prelude.{◌≡◌, not, ◌+◌, ◌*◌, ◌≤◌, length};
 ghost use Rattle.machine.specs.Basics.{first_of};
 ghost use Rattle.machine.specs.Words.{end_of};
@@ -9,6 +11,7 @@ ghost use Rattle.machine.specs.Flip.{empty_space, unasked, unasked_entry, flip_e
 use table::{Answer, Marks, Outcome, Pass, Place, Table, Task};
 
 // A New that stood waiting goes on in the collecting rules.
+#[tactic(auto, unfolding(machine::specs::Flip::unasked))]
 fn unasked_place(place: Place) -> Place
     ensures { result ≡ unasked place }
 {
@@ -30,6 +33,7 @@ fn unasked_place(place: Place) -> Place
     }
 }
 
+#[tactic(auto, unfolding(machine::specs::Flip::unasked_entry))]
 fn unasked_entry(e: Task) -> Task
     ensures { result ≡ unasked_entry e }
 {
@@ -38,6 +42,7 @@ fn unasked_entry(e: Task) -> Task
     Task { place: next, ..e }
 }
 
+#[tactic(auto, using(crate::proofs::Renewed::none_new, crate::proofs::Renewed::one_more_lem, crate::proofs::Renewed::all_new))]
 fn unasked_tasks(tasks: [Task; 8], p: usize) -> [Task; 8]
     requires { p ≤ 8 }
     ensures { result ≡ first_of p unasked_entry tasks }
@@ -54,6 +59,7 @@ fn unasked_tasks(tasks: [Task; 8], p: usize) -> [Task; 8]
 }
 
 // The space to come, all of it free.
+#[tactic(auto, unfolding(machine::specs::Words::end_of))]
 fn empty_space(upper: bool, h: u32) -> Marks
     requires { h ≤ 8190 }
     ensures { (result ≡ empty_space upper h) × Fits result (end_of (not upper) h) (2 + 2 * h) }
@@ -93,6 +99,7 @@ fn finished(t: Table, v: Pass) -> Outcome
     }
 }
 
+#[tactic(auto, unfolding(machine::specs::Flip::flip_of, machine::specs::Flip::passes_of))]
 pub fn flip(t: Table, words: &mut [u32]) -> Outcome
     requires { (t.limits.p ≤ 8) × (t.limits.s ≤ 255) × (t.limits.h ≤ 8190) × (length words.old ≡ 2 + 2 * t.limits.h) }
     ensures { ends result words.new ≡ flip_of t words.old }

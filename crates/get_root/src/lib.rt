@@ -1,4 +1,6 @@
 // From a shared root, to a register: the call completes at once.
+#![tactic(auto)]
+
 ghost use Rattle.machine.specs.Entries.{ends};
 ghost use Rattle.machine.specs.Call.{Call};
 ghost use Rattle.machine.specs.Calls.{Meets};
@@ -6,6 +8,7 @@ ghost use Rattle.machine.specs.Calls.{Meets};
 use table::{Answer, Gate, Outcome, Table};
 
 // A register gets what a shared root holds.
+#[tactic(auto, using(opening::proofs::Opens::admitted, opening::proofs::Opens::by_opening), unfolding(machine::specs::Complete::get_root_of, machine::specs::Entries::with_register, machine::specs::Entries::with_task))]
 pub fn get_root(t: Table, words: &[u32], task: u32, r: u32, root: u32) -> Outcome
     ensures { Meets (Call.Get task r root) t words.now (ends result words.now) }
 {

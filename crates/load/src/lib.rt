@@ -1,4 +1,6 @@
 // Load: a pointer slot goes to a register, a plain slot is answered.
+#![tactic(auto)]
+
 ghost use Rattle.std.specs.Prelude.{◌≡◌};
 ghost use Rattle.machine.specs.Entries.{ends};
 ghost use Rattle.machine.specs.Call.{Call};
@@ -16,6 +18,7 @@ pub enum Loaded {
 }
 
 // A slot of the object at p.
+#[tactic(auto, using(machine::proofs::Rules::tests), unfolding(crate::specs::Slot::loaded_of))]
 fn load_slot(words: &[u32], s: u32, p: Primary, slot: u32) -> Loaded
     ensures { result ≡ loaded_of words.now s p slot }
 {
@@ -38,6 +41,7 @@ fn load_slot(words: &[u32], s: u32, p: Primary, slot: u32) -> Loaded
 }
 
 // A slot of the object in register `from`; a pointer goes to register `to`.
+#[tactic(auto, using(opening::proofs::Opens::admitted, opening::proofs::Opens::by_opening, crate::proofs::Given::load_given), unfolding(machine::specs::Complete::load_of, machine::specs::Entries::with_register, machine::specs::Entries::with_task))]
 pub fn load(t: Table, words: &[u32], task: u32, to: u32, from: u32, slot: u32) -> Outcome
     ensures { Meets (Call.Load task to from slot) t words.now (ends result words.now) }
 {

@@ -1,4 +1,6 @@
 // To a shared root, from a register: the call completes at once.
+#![tactic(auto)]
+
 ghost use Rattle.machine.specs.Entries.{ends};
 ghost use Rattle.machine.specs.Call.{Call};
 ghost use Rattle.machine.specs.Calls.{Meets};
@@ -6,6 +8,7 @@ ghost use Rattle.machine.specs.Calls.{Meets};
 use table::{Answer, Gate, Outcome, Table};
 
 // A shared root gets what a register holds.
+#[tactic(auto, using(opening::proofs::Opens::admitted, opening::proofs::Opens::by_opening), unfolding(machine::specs::Complete::put_root_of, machine::specs::Entries::with_root))]
 pub fn put_root(t: Table, words: &[u32], task: u32, root: u32, r: u32) -> Outcome
     ensures { Meets (Call.Put task root r) t words.now (ends result words.now) }
 {

@@ -1,4 +1,6 @@
 // Same, the call that compares two registers; it completes at once.
+#![tactic(auto)]
+
 ghost use Rattle.machine.specs.Entries.{ends};
 ghost use Rattle.machine.specs.Call.{Call};
 ghost use Rattle.machine.specs.Calls.{Meets};
@@ -6,6 +8,7 @@ ghost use Rattle.machine.specs.Calls.{Meets};
 use table::{Answer, Gate, Outcome, Table};
 
 // Are two registers the same object: 1, or 0.
+#[tactic(auto, using(opening::proofs::Opens::admitted, opening::proofs::Opens::by_opening), unfolding(machine::specs::Complete::same_of))]
 pub fn same(t: Table, words: &[u32], task: u32, a: u32, b: u32) -> Outcome
     ensures { Meets (Call.Same task a b) t words.now (ends result words.now) }
 {

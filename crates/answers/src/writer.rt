@@ -25,7 +25,7 @@ pub fn number_of(x: Refusal) -> u32
 }
 
 // Puts the bytes of text into out from `at` on, and answers the index past them.
-#[tactic(auto, using(crate::proofs::Put::put_turn, crate::proofs::Put::put_end, crate::proofs::Put::same_wrote))]
+#[tactic(auto, using(crate::proofs::Put::put_end, crate::proofs::Put::same_wrote))]
 pub fn put_text(text: &[u8], out: &mut [u8], at: usize) -> usize
     requires { at + length text.now ≤ length out.old }
     ensures { wrote result out.new ≡ written text.now out.old at }
@@ -57,7 +57,7 @@ fn put_number(n: u32, out: &mut [u8], at: usize) -> usize
 }
 
 // Puts a word with its tab, a number and a newline.
-#[tactic(auto, using(crate::proofs::Put::then_text, crate::proofs::Put::wrote_next, crate::proofs::Put::wrote_length, crate::proofs::Put::decimal_ten))]
+#[tactic(auto, using(crate::proofs::Put::wrote_next, crate::proofs::Put::wrote_length, crate::proofs::Put::decimal_ten))]
 pub fn put_with(word: &[u8], n: u32, out: &mut [u8], at: usize) -> usize
     requires { at + (length word.now + 11) ≤ length out.old }
     ensures out_after { wrote result out.new ≡ written (word.now ++ (decimal n ++ newline)) out.old at }
@@ -81,7 +81,7 @@ fn put_mode(on: bool, out: &mut [u8], at: usize) -> usize
 }
 
 // Puts the line of a report.
-#[tactic(auto, using(crate::proofs::Put::then_text, crate::proofs::Put::wrote_next, crate::proofs::Put::wrote_length, crate::proofs::Put::decimal_ten, crate::proofs::Put::mode_length), unfolding(crate::specs::Text::report_text))]
+#[tactic(auto, using(crate::proofs::Put::wrote_next, crate::proofs::Put::wrote_length, crate::proofs::Put::decimal_ten, crate::proofs::Put::mode_length))]
 pub fn put_report(on: bool, live: u32, copies: u32, out: &mut [u8], at: usize) -> usize
     requires { at + 40 ≤ length out.old }
     ensures out_after { wrote result out.new ≡ written (report_text on live copies) out.old at }

@@ -43,7 +43,7 @@ pub enum Said {
 }
 
 // What a line says; the line is without its newline.
-#[tactic(auto, using(crate::proofs::Names::bytes_of, crate::proofs::Whole::no_name, crate::proofs::Whole::name_end, crate::proofs::Whole::whole))]
+#[tactic(auto, using(crate::proofs::Whole::no_name, crate::proofs::Whole::name_end))]
 pub fn read_line(line: &[u8]) -> Said
     ensures { result ≡ line_of line.now }
 {

@@ -30,7 +30,7 @@ fn wide(x: u8) -> u64
 
 // The number in the field that begins at `from`. It stops at the first digit that brings the value above 32 bits, so
 // that a field of any length is read in 64.
-#[tactic(auto, using(crate::proofs::Scan::more, crate::proofs::Scan::at_end, crate::proofs::Scan::zero_end, crate::proofs::Scan::zero_then, crate::proofs::Scan::zero_bad, crate::proofs::Scan::low_bad, crate::proofs::Scan::high_bad, crate::proofs::Scan::loop_begins, crate::proofs::Scan::ends_here, crate::proofs::Scan::ends_tab, crate::proofs::Scan::ends_low, crate::proofs::Scan::ends_high, crate::proofs::Scan::ends_large, crate::proofs::Scan::goes_on))]
+#[tactic(auto, using(crate::proofs::Scan::at_end, crate::proofs::Scan::zero_end, crate::proofs::Scan::zero_then, crate::proofs::Scan::zero_bad, crate::proofs::Scan::low_bad, crate::proofs::Scan::high_bad, crate::proofs::Scan::loop_begins, crate::proofs::Scan::ends_here, crate::proofs::Scan::ends_tab, crate::proofs::Scan::ends_low, crate::proofs::Scan::ends_high, crate::proofs::Scan::ends_large, crate::proofs::Scan::goes_on))]
 fn number(line: &[u8], from: usize) -> Num
     requires { from ≤ length line.now }
     ensures { result ≡ num_of from (drop from line.now) }
@@ -80,7 +80,7 @@ fn number(line: &[u8], from: usize) -> Num
 
 // The first field: its bytes as digits in base 256, the first the least, and a 1 above the last, so that equal numbers
 // are equal fields. No name has more than six bytes.
-#[tactic(auto, using(crate::proofs::Names::pow256, crate::proofs::Names::pow_bound, crate::proofs::Names::pow_most, crate::proofs::Names::pow_next, crate::proofs::Names::times, crate::proofs::Names::under, crate::proofs::Names::named, crate::proofs::Names::named_start, crate::proofs::Names::name_tab, crate::proofs::Names::name_long, crate::proofs::Names::name_ends, crate::proofs::Names::name_on))]
+#[tactic(auto, using(crate::proofs::Names::pow_bound, crate::proofs::Names::pow_most, crate::proofs::Names::pow_next, crate::proofs::Names::times, crate::proofs::Names::under, crate::proofs::Names::name_tab, crate::proofs::Names::name_long, crate::proofs::Names::name_ends, crate::proofs::Names::name_on))]
 pub fn name_of(line: &[u8]) -> Name
     ensures { result ≡ name_of line.now }
 {
@@ -174,7 +174,7 @@ fn with_four(code: u64, a: u32, b: u32, c: u32, d: u32) -> Said
 }
 
 // The record whose name is coded and ends at `from`, where its numbers follow.
-#[tactic(auto, using(crate::proofs::Fields::nothing_more, crate::proofs::Fields::begun, crate::proofs::Fields::onward, crate::proofs::Fields::stuck, crate::proofs::Fields::ended, crate::proofs::Fields::too_many), unfolding(crate::specs::Line::record_by))]
+#[tactic(auto, using(crate::proofs::Fields::nothing_more), unfolding(crate::specs::Line::record_by))]
 pub fn record_at(line: &[u8], from: usize, code: u64) -> Said
     requires { from ≤ length line.now }
     ensures { result ≡ record_in (coded code) (behind (drop from line.now)) }

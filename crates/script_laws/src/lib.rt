@@ -1,1 +1,2 @@
 // What is proved of the line language; no code.
+#![tactic(auto)]

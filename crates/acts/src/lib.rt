@@ -1,4 +1,6 @@
 // What the step of a task comes to, from its entry and the words alone.
+#![tactic(auto)]
+
 ghost use Rattle.std.specs.Prelude.{◌≡◌, length};
 ghost use Rattle.machine.specs.Bounds.{Sound};
 ghost use Rattle.machine.specs.Words.{end_of};
@@ -10,6 +12,7 @@ use new::Act;
 use table::{Limits, Marks, Pending, Refusal, Task};
 
 // The register that a pending object goes to is one.
+#[tactic(auto, using(machine::proofs::Rules::tests))]
 fn pending_ok(pending: Pending) -> bool
     ensures { result ≡ pending_ok pending }
 {
@@ -25,6 +28,7 @@ fn pending_ok(pending: Pending) -> bool
 }
 
 // What the step of a task with entry e comes to.
+#[tactic(auto, unfolding(crate::specs::TaskActs::task_act))]
 pub fn task_act(on: bool, l: Limits, upper: bool, m: Marks, words: &mut [u32], e: Task) -> Act
     requires { Sound l upper m (length words.old) }
     ensures { came result words.new ≡ task_act on l m (end_of upper l.h) words.old e }

@@ -1,10 +1,13 @@
 // Begin of Fill with a pointer: no word is written, and the task's first place is recorded.
+#![tactic(auto)]
+
 ghost use Rattle.machine.specs.Entries.{ends};
 ghost use Rattle.machine.specs.Call.{Call};
 ghost use Rattle.machine.specs.Calls.{Meets};
 
 use table::{Answer, Gate, Operand, Outcome, Table};
 
+#[tactic(auto, using(opening::proofs::Opens::admitted, opening::proofs::Opens::by_opening, opening::proofs::Opens::one_register, begin_fill::proofs::Opens::by_gate), unfolding(machine::specs::Begin::begin_fill_pointer_of, machine::specs::Begin::fill_from, machine::specs::Entries::with_place, machine::specs::Entries::with_task))]
 pub fn begin_fill_pointer(t: Table, words: &[u32], task: u32, r: u32) -> Outcome
     ensures { Meets (Call.FillPointer task r) t words.now (ends result words.now) }
 {

@@ -1,10 +1,13 @@
 // Begin of Store of a pointer: no word is written, and the task's first place is recorded.
+#![tactic(auto)]
+
 ghost use Rattle.machine.specs.Entries.{ends};
 ghost use Rattle.machine.specs.Call.{Call};
 ghost use Rattle.machine.specs.Calls.{Meets};
 
 use table::{Answer, Gate, Operand, Outcome, Table};
 
+#[tactic(auto, using(opening::proofs::Opens::admitted, opening::proofs::Opens::by_opening, begin_store::proofs::Opens::by_gate), unfolding(machine::specs::Begin::begin_store_pointer_of, machine::specs::Begin::store_from, machine::specs::Entries::with_task))]
 pub fn begin_store_pointer(
     t: Table,
     words: &[u32],

@@ -1,4 +1,6 @@
 // What an act makes of the table, which goes whole to whatever ends, waits, asks or fails.
+#![tactic(auto)]
+
 ghost use Rattle.std.specs.Prelude.{◌≡◌, ◌+◌, ◌*◌, ◌≤◌, ◌<◌, length};
 ghost use Rattle.machine.specs.Entries.{ends, task_at, moved_table};
 ghost use Rattle.machine.specs.Switch.{finish_of};
@@ -13,6 +15,7 @@ use new::Act;
 use table::{Answer, Deed, Found, Marks, Outcome, Place, Refusal, Sought, Table};
 
 // The step waits for the lowest-numbered task that is sought.
+#[tactic(auto, unfolding(machine::specs::Step::wait_of))]
 fn wait(t: Table, w: Sought) -> Outcome
     requires { t.limits.p ≤ 8 }
     ensures { result ≡ wait_of t w }
@@ -50,6 +53,7 @@ fn ended(t: Table, words: &[u32], i: usize, m: Marks, x: Answer) -> Outcome
 }
 
 // What an action of task i makes of the table.
+#[tactic(auto, unfolding(machine::specs::Step::settle_of))]
 fn settle(t: Table, words: &[u32], i: usize, d: Deed) -> Outcome
     requires { (t.limits.p ≤ 8) × (t.limits.h ≤ 8190) × (i < 8) }
     ensures { ends result words.now ≡ settle_of t i d words.now }
@@ -77,6 +81,7 @@ fn settle(t: Table, words: &[u32], i: usize, d: Deed) -> Outcome
 }
 
 // A take that finds the stack empty: the payment ends if nothing is grey, else it waits.
+#[tactic(auto, unfolding(machine::specs::Step::empty_take_of))]
 fn empty_take(t: Table, words: &[u32], i: usize) -> Outcome
     requires { (t.limits.p ≤ 8) × (t.limits.h ≤ 8190) × (i < 8) }
     ensures { ends result words.now ≡ empty_take_of t words.now i }
@@ -112,6 +117,7 @@ fn ask(t: Table, words: &mut [u32], i: usize, r: u32, len: u32, m: u32) -> Outco
 }
 
 // What an act of task i makes of the table.
+#[tactic(auto, unfolding(new::specs::Acts::settle_act))]
 pub fn settle_act(t: Table, words: &mut [u32], i: usize, a: Act) -> Outcome
     requires { (t.limits.p ≤ 8) × (t.limits.s ≤ 255) × (t.limits.h ≤ 8190) × (length words.old ≡ 2 + 2 * t.limits.h) × (i < 8) }
     ensures { ends result words.new ≡ settle_act t i a words.old }

@@ -1,4 +1,6 @@
 // One step of a task: its act, and the table's one change.
+#![tactic(auto)]
+
 ghost use Rattle.machine.specs.Entries.{ends};
 ghost use Rattle.machine.specs.Call.{Call};
 ghost use Rattle.machine.specs.Calls.{Meets};
@@ -6,6 +8,7 @@ ghost use Rattle.machine.specs.Calls.{Meets};
 use table::{Gate, Outcome, Table};
 
 // One step of a task. The table lies in one local, which is changed once; it goes on whole only where the act is not plain.
+#[tactic(auto, using(crate::proofs::Acts::step_whole, crate::proofs::Acts::step_plain), unfolding(machine::specs::Step::step_of))]
 pub fn step(t: Table, words: &mut [u32], task: u32) -> Outcome
     ensures { Meets (Call.Step task) t words.old (ends result words.new) }
 {

@@ -1,4 +1,6 @@
 // The heap's public calls, and the types they take and give.
+#![tactic(auto)]
+
 pub use begin_fill::begin_fill;
 pub use begin_fill_pointer::begin_fill_pointer;
 pub use begin_new::begin_new;

@@ -18,21 +18,26 @@ use Rattle.machine.specs.StillStore.{Store, empty_store, task_of, owner_at, held
 use Rattle.machine.specs.Kinds.{follows, beside}
 use Rattle.machine.specs.History.{InCopies, NoCopyTwice, no_history, history_of, copies_of, NoFlip}
 use Rattle.machine.specs.Live.Live.{live_of, size_of, filled_at}
-use Rattle.machine.proofs.Objects.Base.{In}
-use Rattle.machine.proofs.Beside.Run.{Living, Spends}
+use Rattle.machine.specs.Objects.Base.{In}
+use Rattle.machine.specs.Beside.Run.{Living, Spends}
 use Rattle.machine.proofs.Beside.Demand2.{load_right, same_right, undamaged, spent_for_room}
-use Rattle.machine.proofs.Beside.Waits.{waits}
-use Rattle.machine.proofs.Beside.Moment.{written_by, begun_by, moment}
-use Rattle.machine.proofs.Beside.Others.{Untouched, others, others_still}
-use Rattle.machine.proofs.Beside.Stored.{StoreMoment, store_moment, store_pointer_moment}
-use Rattle.machine.proofs.Beside.Named.{Names, registers_named}
-use Rattle.machine.proofs.Beside.WaitsFor.{WaitsFor}
-use Rattle.machine.proofs.Beside.Grey.{NothingGrey, IsHeld}
-use Rattle.machine.proofs.Beside.Reasons.{TooFull, NoneLeft}
-use Rattle.machine.proofs.Beside.HeldBegins.{Begins}
+use Rattle.machine.specs.Beside.Waits.{waits}
+use Rattle.machine.specs.Beside.Moment.{written_by, begun_by}
+use Rattle.machine.proofs.Beside.Moment.{moment}
+use Rattle.machine.specs.Beside.Others.{Untouched}
+use Rattle.machine.proofs.Beside.Others.{others, others_still}
+use Rattle.machine.specs.Beside.Stored.{StoreMoment}
+use Rattle.machine.proofs.Beside.Stored.{store_moment, store_pointer_moment}
+use Rattle.machine.specs.Beside.Named.{Names}
+use Rattle.machine.proofs.Beside.Named.{registers_named}
+use Rattle.machine.specs.Beside.WaitsFor.{WaitsFor}
+use Rattle.machine.specs.Beside.Grey.{NothingGrey, IsHeld}
+use Rattle.machine.specs.Beside.Reasons.{TooFull, NoneLeft}
+use Rattle.machine.specs.Beside.HeldBegins.{Begins}
 use Rattle.machine.proofs.Beside.Exact.{waits_right, ends_right, nine_right, flip_right, begun_right, seven_right}
-use Rattle.machine.proofs.Beside.Rooms.{Suits}
-use Rattle.machine.proofs.Beside.Demand3.{Lasts, AllSuit, copies_right, exactly_once, room_enough, flip_suits}
+use Rattle.machine.specs.Beside.Rooms.{Suits}
+use Rattle.machine.specs.Beside.Demand3.{Lasts, AllSuit}
+use Rattle.machine.proofs.Beside.Demand3.{copies_right, exactly_once, room_enough, flip_suits}
 
 -- how the set-up ends, and the heap after the run
 abbrev pub set_up : Table → Limits → List ℕ → Ends

@@ -25,3 +25,6 @@ pub mod StillStore
 pub mod Kinds
 pub mod Live
 pub mod History
+pub mod Agree
+pub mod Beside
+pub mod Objects

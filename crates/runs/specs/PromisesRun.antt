@@ -18,9 +18,9 @@ use Rattle.machine.specs.Kinds.{beside}
 use Rattle.machine.specs.Opened.{steps, opened}
 use Rattle.runs.specs.StillRun.{dropped, axle, turned, ended, small, turned_again, closing, again}
 use Rattle.machine.proofs.Objects.Base.{off_on}
-use Rattle.machine.proofs.Beside.Run.{Living}
-use Rattle.machine.proofs.Beside.WaitsFor.{MetBy}
-use Rattle.machine.proofs.Beside.Grey.{NothingGrey, Closing}
+use Rattle.machine.specs.Beside.Run.{Living}
+use Rattle.machine.specs.Beside.WaitsFor.{MetBy}
+use Rattle.machine.specs.Beside.Grey.{NothingGrey, Closing}
 use Rattle.machine.proofs.Beside.Exact.{waits_right, ends_right, seven_right}
 use Rattle.machine.proofs.Promises.{set_up, store_after, loads, sames}
 

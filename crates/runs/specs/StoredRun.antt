@@ -13,9 +13,10 @@ use Rattle.machine.specs.Kinds.{beside}
 use Rattle.machine.specs.Opened.{started, steps, opened}
 use Rattle.runs.specs.RoomRuns.{with_refusal, refusals_in, plain, dropped}
 use Rattle.machine.proofs.Objects.Base.{clash}
-use Rattle.machine.proofs.Beside.Moment.{begun_by}
-use Rattle.machine.proofs.Beside.Run.{Living}
-use Rattle.machine.proofs.Beside.Stored.{slot_of, StoreMoment, store_moment, store_pointer_moment}
+use Rattle.machine.specs.Beside.Moment.{begun_by}
+use Rattle.machine.specs.Beside.Run.{Living}
+use Rattle.machine.specs.Beside.Stored.{slot_of, StoreMoment}
+use Rattle.machine.proofs.Beside.Stored.{store_moment, store_pointer_moment}
 
 -- ---- Off: task 0 stores 8 over 7. Before its step task 1, which holds the object too, is refused a Store into that slot
 -- and makes an object of its own.

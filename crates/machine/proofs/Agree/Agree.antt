@@ -10,6 +10,7 @@ use Rattle.machine.proofs.Objects.Base.{sum_to}
 use Rattle.machine.proofs.Objects.State.{Hd, Shape, State, IsPlaced, owes, jobs_in}
 use Rattle.machine.proofs.Agree.Encode.{at_primary, at_task, header_word, copy_word, slot_word}
 use Rattle.machine.proofs.Agree.Mem.{Loc, P, R, S, Holds}
+use Rattle.machine.specs.Agree.Agree.{end}
 
 -- an object that has words
 abbrev pub Held : (ℕ → Type 0) → Shape → ℕ → Type 0
@@ -57,9 +58,6 @@ pub record Lay (K : ℕ → Type 0) (sh : Shape) (hd : ℕ → Hd) (pa ra : ℕ 
 
 abbrev pub bottom : Table → ℕ
 bottom t = bottom_of t.upper t.limits.h
-
-abbrev pub end : Table → ℕ
-end t = end_of t.upper t.limits.h
 
 -- A, top, J, the copies
 pub record Marked (o : State) (t : Table) : Type 0 where

@@ -4,7 +4,8 @@ use Rattle.std.proofs.Common.{ap, sym, inl, inr, arith}
 use Rattle.std.proofs.Math.Decide.{ℕ_discrete}
 use Rattle.machine.proofs.Objects.State.{Hd, Shape, IsPlaced}
 use Rattle.machine.proofs.Agree.Mem.{Loc, P, R, S, Apart}
-use Rattle.machine.proofs.Agree.Agree.{Held, addr, Written, Ok, Beside, Lay, end}
+use Rattle.machine.specs.Agree.Agree.{end}
+use Rattle.machine.proofs.Agree.Agree.{Held, addr, Written, Ok, Beside, Lay}
 
 -- a word of a replica that means something is one of its block
 pub written_in_lem : (len : ℕ) (has : ℕ → Bool) (o : ℕ) → Written len has o → o < len + 2

@@ -4,13 +4,15 @@ use Rattle.std.proofs.Common.{ap, sym, ◌∙◌, inl, inr, arith}
 use Rattle.std.proofs.Math.Decide.{ℕ_discrete}
 use Rattle.table.specs.declared.Table.{Table}
 use Rattle.machine.specs.Entries.{task_at}
-use Rattle.machine.proofs.Objects.Base.{upd, upd_same, upd_other, In}
+use Rattle.machine.specs.Objects.Base.{In}
+use Rattle.machine.proofs.Objects.Base.{upd, upd_same, upd_other}
 use Rattle.machine.proofs.Objects.State.{Shape, State, IsPlaced, Late}
 use Rattle.machine.proofs.Objects.Inv.{Mode, Inv}
 use Rattle.machine.proofs.Objects.Ops.{one_more}
 use Rattle.machine.proofs.Agree.Encode.{at_primary, at_task}
 use Rattle.machine.proofs.Agree.Mem.{Loc, P, R, S, InLocs, Holds}
-use Rattle.machine.proofs.Agree.Agree.{Held, addr, Ok, content, Beside, bottom, end, Agree}
+use Rattle.machine.specs.Agree.Agree.{end}
+use Rattle.machine.proofs.Agree.Agree.{Held, addr, Ok, content, Beside, bottom, Agree}
 use Rattle.machine.proofs.Agree.Enter.{bounds}
 use Rattle.machine.proofs.Agree.Older.{slot_word_same, task_same, roots_same}
 

@@ -22,7 +22,8 @@ use Rattle.machine.proofs.Objects.Inv.{Inv}
 use Rattle.machine.proofs.Objects.Ops.{state, goes, goes_with, moves}
 use Rattle.machine.proofs.Agree.Encode.{at_primary, at_pending, at_place, at_task}
 use Rattle.machine.proofs.Agree.Mem.{Holds}
-use Rattle.machine.proofs.Agree.Agree.{addr, Ok, content, Lay, bottom, end, Agree}
+use Rattle.machine.specs.Agree.Agree.{end}
+use Rattle.machine.proofs.Agree.Agree.{addr, Ok, content, Lay, bottom, Agree}
 use Rattle.machine.proofs.Agree.MidwayRead.{space_low, space_high}
 
 -- ---- the machine's tables have this form

@@ -14,7 +14,7 @@ use Rattle.machine.specs.Numbers.{refusal}
 use Rattle.machine.specs.Words.{primary}
 use Rattle.machine.specs.Entries.{no_task, nil}
 use Rattle.machine.specs.Flip.{Went, onward, next, pass_of, visit_of, pending_pass, register_pass}
-use Rattle.machine.proofs.Objects.Base.{In}
+use Rattle.machine.specs.Objects.Base.{In}
 use Rattle.machine.proofs.Objects.State.{State, root, pending_is}
 use Rattle.machine.proofs.Objects.Inv.{Sound, Inv}
 use Rattle.machine.proofs.Objects.Flipped.{Comes}

@@ -16,7 +16,8 @@ use Rattle.machine.specs.Numbers.{refusal}
 use Rattle.machine.specs.Words.{room_for, bottom_of, end_of}
 use Rattle.machine.specs.Entries.{Ends}
 use Rattle.machine.specs.Flip.{passes_of, flip_end, flip_of}
-use Rattle.machine.proofs.Objects.Base.{clash, upd, upd_other, upd_all, sum_to, In}
+use Rattle.machine.specs.Objects.Base.{In}
+use Rattle.machine.proofs.Objects.Base.{clash, upd, upd_other, upd_all, sum_to}
 use Rattle.machine.proofs.Objects.State.{Hd, white, claimed, count, locked, State, IsPlaced, IsUnplaced, pending_is}
 use Rattle.machine.proofs.Objects.Inv.{Reach, from, PendingOk, Off, Inv}
 use Rattle.machine.proofs.Objects.Ops.{found_in}

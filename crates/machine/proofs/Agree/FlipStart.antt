@@ -14,7 +14,8 @@ use Rattle.machine.proofs.Objects.FlipInv.{mid_start}
 use Rattle.machine.proofs.Objects.FlipCounts.{sum_none}
 use Rattle.machine.proofs.Agree.Encode.{copy_word, header_word}
 use Rattle.machine.proofs.Agree.Mem.{P, R, S, Holds}
-use Rattle.machine.proofs.Agree.Agree.{Held, addr, Ok, content, Lay, bottom, end, Agree}
+use Rattle.machine.specs.Agree.Agree.{end}
+use Rattle.machine.proofs.Agree.Agree.{Held, addr, Ok, content, Lay, bottom, Agree}
 use Rattle.machine.proofs.Agree.Midway.{Midway}
 use Rattle.machine.proofs.Agree.MidwayRead.{space_high}
 use Rattle.machine.proofs.Agree.Home.{Home}

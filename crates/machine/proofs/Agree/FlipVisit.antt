@@ -12,7 +12,8 @@ use Rattle.machine.specs.Basics.{pick}
 use Rattle.machine.specs.Numbers.{refusal}
 use Rattle.machine.specs.Words.{primary, look_of, room_for}
 use Rattle.machine.specs.Flip.{Went, went, placing, visit_case, visit_of, visit_pending_of}
-use Rattle.machine.proofs.Objects.Base.{off_on, upd, In}
+use Rattle.machine.specs.Objects.Base.{In}
+use Rattle.machine.proofs.Objects.Base.{off_on, upd}
 use Rattle.machine.proofs.Objects.State.{white, State, IsPlaced, IsUnplaced, pending_is}
 use Rattle.machine.proofs.Objects.Inv.{Sound, PendingOk, Off, Inv}
 use Rattle.machine.proofs.Objects.Ops.{twins}

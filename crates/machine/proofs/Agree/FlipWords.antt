@@ -20,7 +20,8 @@ use Rattle.machine.specs.Entries.{no_task, out, refused, ends}
 use Rattle.machine.specs.Setup.{fresh_task}
 use Rattle.machine.specs.Tasks.{holding_of}
 use Rattle.machine.specs.Flip.{empty_space, tasks_of, passes_of, unasked, unasked_entry, flipped, flip_end, flip_of}
-use Rattle.machine.proofs.Objects.Base.{off_on, sum_to, In}
+use Rattle.machine.specs.Objects.Base.{In}
+use Rattle.machine.proofs.Objects.Base.{off_on, sum_to}
 use Rattle.machine.proofs.Objects.State.{Hd, count, Shape, State, IsPlaced, jobs_in, Meeting}
 use Rattle.machine.proofs.Objects.Inv.{PlaceOk, Off, Inv}
 use Rattle.machine.proofs.Objects.Ops.{state, found_in, flips}

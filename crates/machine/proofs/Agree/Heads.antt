@@ -14,7 +14,8 @@ use Rattle.machine.proofs.Objects.Inv.{Colours, Inv}
 use Rattle.machine.proofs.Objects.Ops.{push, heads}
 use Rattle.machine.proofs.Agree.Encode.{at_task, header_word, copy_word}
 use Rattle.machine.proofs.Agree.Mem.{Loc, P, R, S, InLocs, Holds, Apart, write}
-use Rattle.machine.proofs.Agree.Agree.{Held, addr, Ok, content, Lay, bottom, end, Agree}
+use Rattle.machine.specs.Agree.Agree.{end}
+use Rattle.machine.proofs.Agree.Agree.{Held, addr, Ok, content, Lay, bottom, Agree}
 use Rattle.machine.proofs.Agree.Apart.{apart}
 use Rattle.machine.proofs.Agree.Enter.{bounds, job_counted, enter}
 

@@ -17,7 +17,8 @@ use Rattle.machine.proofs.Objects.Inv.{Colours, Off, PlaceOk, Inv}
 use Rattle.machine.proofs.Objects.Ops.{one_more, makes}
 use Rattle.machine.proofs.Agree.Encode.{at_pending, at_task, header_word, copy_word}
 use Rattle.machine.proofs.Agree.Mem.{Loc, P, R, InLocs, Holds, Apart, write}
-use Rattle.machine.proofs.Agree.Agree.{Held, addr, Ok, content, Beside, Lay, bottom, end, Agree}
+use Rattle.machine.specs.Agree.Agree.{end}
+use Rattle.machine.proofs.Agree.Agree.{Held, addr, Ok, content, Beside, Lay, bottom, Agree}
 use Rattle.machine.proofs.Agree.Apart.{apart}
 use Rattle.machine.proofs.Agree.Enter.{enter}
 use Rattle.machine.proofs.Agree.Older.{slot_word_same}

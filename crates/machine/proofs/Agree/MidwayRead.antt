@@ -14,7 +14,8 @@ use Rattle.machine.specs.Words.{primary, replica, descriptor, length_in, pointer
 use Rattle.machine.proofs.Objects.State.{Hd, white, claimed, count, locked, Shape, State}
 use Rattle.machine.proofs.Agree.Encode.{header_word}
 use Rattle.machine.proofs.Agree.Mem.{P}
-use Rattle.machine.proofs.Agree.Agree.{Held, bottom, end, Agree}
+use Rattle.machine.specs.Agree.Agree.{end}
+use Rattle.machine.proofs.Agree.Agree.{Held, bottom, Agree}
 use Rattle.machine.proofs.Agree.Midway.{Midway}
 
 -- what a look at an object finds, by its header

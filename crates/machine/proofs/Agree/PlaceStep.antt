@@ -27,7 +27,8 @@ use Rattle.machine.proofs.Objects.State.{Hd, count, Shape, State, IsPlaced, IsUn
 use Rattle.machine.proofs.Objects.Inv.{SoundCopied, Colours, PlaceOk, Inv}
 use Rattle.machine.proofs.Objects.Ops.{goes, push, moves, twins}
 use Rattle.machine.proofs.Agree.Encode.{at_then, at_copied, at_place, at_task}
-use Rattle.machine.proofs.Agree.Agree.{Held, bottom, end, Agree}
+use Rattle.machine.specs.Agree.Agree.{end}
+use Rattle.machine.proofs.Agree.Agree.{Held, bottom, Agree}
 use Rattle.machine.proofs.Agree.Midway.{Midway, twin_need, twin_marks, twin_words, no_room, twin_length}
 use Rattle.machine.proofs.Agree.MidwayRead.{object_in, midway_of}
 use Rattle.machine.proofs.Agree.Twin.{twin}

@@ -13,7 +13,8 @@ use Rattle.machine.proofs.Objects.State.{Hd, white, claimed, count, locked, Stat
 use Rattle.machine.proofs.Objects.Inv.{Colours, Inv}
 use Rattle.machine.proofs.Agree.Encode.{header_word, copy_word, slot_word}
 use Rattle.machine.proofs.Agree.Mem.{P, R, S}
-use Rattle.machine.proofs.Agree.Agree.{Held, end, Agree}
+use Rattle.machine.specs.Agree.Agree.{end}
+use Rattle.machine.proofs.Agree.Agree.{Held, Agree}
 use Rattle.machine.proofs.Agree.MidwayRead.{found_by, whole, forwarded}
 use Rattle.machine.proofs.Agree.Spaces.{end_inside, top_high, a_high}
 use Rattle.machine.proofs.Agree.Names.{pa_four, ra_four}

@@ -26,7 +26,8 @@ use Rattle.machine.proofs.Objects.State.{claimed, locked, State, On, HasClaim, j
 use Rattle.machine.proofs.Objects.Inv.{Inv}
 use Rattle.machine.proofs.Objects.Flipped.{Restful}
 use Rattle.machine.proofs.Agree.Encode.{at_storing, at_task}
-use Rattle.machine.proofs.Agree.Agree.{Held, end, Agree}
+use Rattle.machine.specs.Agree.Agree.{end}
+use Rattle.machine.proofs.Agree.Agree.{Held, Agree}
 use Rattle.machine.proofs.Agree.Holdings.{at_holding, holding_at, claim_is_lem, job_is_lem, claims, claim_works, job_works, idle_only, restful, store_there_lem}
 use Rattle.machine.proofs.Agree.Lowest.{found_at, lowest_found, lowest_one, lowest_none}
 

@@ -11,7 +11,8 @@ use Rattle.machine.proofs.Objects.Inv.{Inv}
 use Rattle.machine.proofs.Objects.Ops.{state, shape_of, copies, stores, half_fills, fills_copy, fills_off}
 use Rattle.machine.proofs.Agree.Encode.{at_task, slot_word}
 use Rattle.machine.proofs.Agree.Mem.{Loc, P, R, S, InLocs, write}
-use Rattle.machine.proofs.Agree.Agree.{Held, addr, Ok, content, Lay, bottom, end, Agree}
+use Rattle.machine.specs.Agree.Agree.{end}
+use Rattle.machine.proofs.Agree.Agree.{Held, addr, Ok, content, Lay, bottom, Agree}
 use Rattle.machine.proofs.Agree.Apart.{apart}
 use Rattle.machine.proofs.Agree.Enter.{bounds, enter}
 

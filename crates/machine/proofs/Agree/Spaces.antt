@@ -4,7 +4,8 @@ use Rattle.std.proofs.Common.{arith}
 use Rattle.table.specs.declared.Table.{Table}
 use Rattle.machine.proofs.Objects.State.{State}
 use Rattle.machine.proofs.Agree.MidwayRead.{space_high}
-use Rattle.machine.proofs.Agree.Agree.{end, Agree}
+use Rattle.machine.specs.Agree.Agree.{end}
+use Rattle.machine.proofs.Agree.Agree.{Agree}
 
 pub end_inside : {K : ℕ → Type 0} {pa ra : ℕ → ℕ} {o : State} {t : Table} {ws : List ℕ} → Agree K pa ra o t ws → end t ≤ length ws
 end_inside {K} {pa} {ra} {o} {t} {ws} k = omega (arith, space_high t.upper t.limits.h, k.sized.size)

@@ -23,7 +23,8 @@ use Rattle.machine.proofs.Objects.Inv.{Sound, Colours, PendingOk, PlaceOk, Inv}
 use Rattle.machine.proofs.Objects.Ops.{switches}
 use Rattle.machine.proofs.Agree.Encode.{at_primary, at_pending, at_task}
 use Rattle.machine.proofs.Agree.Mem.{P, R, S, Holds}
-use Rattle.machine.proofs.Agree.Agree.{Held, addr, Ok, content, Lay, bottom, end, Agree}
+use Rattle.machine.specs.Agree.Agree.{end}
+use Rattle.machine.proofs.Agree.Agree.{Held, addr, Ok, content, Lay, bottom, Agree}
 use Rattle.machine.proofs.Agree.Midway.{Midway}
 use Rattle.machine.proofs.Agree.MidwayRead.{space_low, look_in, midway_of}
 use Rattle.machine.proofs.Agree.Home.{Home}

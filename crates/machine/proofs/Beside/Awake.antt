@@ -21,7 +21,8 @@ use Rattle.table.specs.declared.Holding.TheVariants.{Rests, Asks, Free, Job, Cla
 use Rattle.machine.proofs.Objects.State.{State, ClaimIn, HasClaim}
 use Rattle.machine.proofs.Agree.Holdings.{at_holding, holding_at}
 use Rattle.machine.proofs.Agree.Search.{found_is}
-use Rattle.machine.proofs.Agree.Agree.{Agree, end}
+use Rattle.machine.specs.Agree.Agree.{end}
+use Rattle.machine.proofs.Agree.Agree.{Agree}
 use Rattle.machine.proofs.Agree.Read.{stack_empty}
 
 -- a search looks at places alone

@@ -17,12 +17,14 @@ use Rattle.machine.specs.Kinds.{pays, done_kinds, moved_kinds, step_kinds, follo
 use Rattle.machine.specs.History.{History, history_after}
 use Rattle.machine.proofs.Beside.Good.{Good}
 use Rattle.machine.proofs.Beside.Waits.{refused_writes}
-use Rattle.machine.proofs.Beside.Moment.{waits, writes, kinds_of, written_in, begun_in, written_by, moment_one}
+use Rattle.machine.specs.Beside.Moment.{kinds_of, written_in, begun_in, written_by}
+use Rattle.machine.proofs.Beside.Moment.{waits, writes, moment_one}
 use Rattle.machine.proofs.Beside.OneStep.{waits_once, step_of}
 use Rattle.machine.proofs.Beside.Others.{others_still}
 use Rattle.machine.proofs.Beside.SlotsStay.{Spares, Stays, told_step, follow_stays, slot_written}
 use Rattle.machine.proofs.Beside.Calls.{NotStep}
-use Rattle.machine.proofs.Beside.Run.{Living, Proceeds, proceeds}
+use Rattle.machine.specs.Beside.Run.{Living}
+use Rattle.machine.proofs.Beside.Run.{Proceeds, proceeds}
 use Rattle.machine.proofs.Beside.Busy.{busy_leaves, same_or_rests}
 use Rattle.machine.proofs.Beside.Waiting.{storer_in, slot_own, slot_there, waits_busy, waits_awake}
 

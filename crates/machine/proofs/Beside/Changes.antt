@@ -31,7 +31,8 @@ use Rattle.machine.specs.Setup.{report_of}
 use Rattle.machine.specs.Complete.{idle_at, with_two, move_of, clear_of, put_root_of, get_root_of, same_of, load_slot, load_from, load_of}
 use Rattle.machine.specs.Begin.{held_at, begun, new_ok, if_nothing, begin_new_of, is_pointer, same_test, fill_slot, fill_pending, fill_from, begin_fill_of, begin_fill_pointer_of, store_place, storing, store_slot, store_from, begin_store_of, begin_store_pointer_of}
 use Rattle.machine.proofs.Objects.Base.{off_on}
-use Rattle.machine.proofs.Beside.Waits.{waits}
+use Rattle.machine.specs.Beside.Waits.{waits}
+use Rattle.machine.specs.Beside.Changes.{if_accepted}
 
 -- ---- what each of two ways gives, and what lies behind a gate
 pub pick_all : {A : Type 0} (P : A → Type 0) (b : Bool) (x y : A) → (b ≡ true → P x) → (b ≡ false → P y) → P (pick b x y)
@@ -88,15 +89,6 @@ pub data Answered (b : Answer → ℕ) (t : Table) (i : ℕ) (o : Outcome) : Typ
 
 abbrev pub no_store : Answer → ℕ
 no_store x = 0
-
-abbrev pub if_accepted : Answer → ℕ
-if_accepted Accepted = 1
-if_accepted Done = 0
-if_accepted (Value v) = 0
-if_accepted Moved = 0
-if_accepted (Wait q) = 0
-if_accepted (Report on live copies) = 0
-if_accepted (No x) = 0
 
 module _ (t : Table) (ws : List ℕ) (i : ℕ) where
   refuses : (x : Refusal) → Answered no_store t i (refused t x)

@@ -2,7 +2,8 @@
 use Rattle.std.specs.Prelude.{ℕ, suc, ◌+◌, ◌≤◌, ◌<◌, ◌≡◌, List, map, length}
 use Rattle.table.specs.declared.Table.{Table}
 use Rattle.machine.specs.History.{Copy, copy, InCopies, NoCopyTwice, History}
-use Rattle.machine.proofs.Objects.Base.{In, sum_to}
+use Rattle.machine.specs.Objects.Base.{In}
+use Rattle.machine.proofs.Objects.Base.{sum_to}
 use Rattle.machine.proofs.Objects.State.{Shape, Snapshot, State}
 use Rattle.machine.proofs.Objects.Inv.{Reach}
 use Rattle.machine.proofs.Objects.Counts.{Counts}

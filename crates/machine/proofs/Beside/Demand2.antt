@@ -16,7 +16,8 @@ use Rattle.machine.specs.History.{no_history, history_of}
 use Rattle.machine.proofs.Beside.Good.{Good}
 use Rattle.machine.proofs.Beside.Start.{fresh_good}
 use Rattle.machine.proofs.Beside.Calls.{load_answers, same_answers}
-use Rattle.machine.proofs.Beside.Run.{Living, Spends, Well, Proceeds, proceeds, good_run}
+use Rattle.machine.specs.Beside.Run.{Living, Spends}
+use Rattle.machine.proofs.Beside.Run.{Well, Proceeds, proceeds, good_run}
 
 -- 10 and 11 are not well
 not_damaged : (c : Call) (t : Table) (x : Answer) → Well c t x → x ≢ No Damaged

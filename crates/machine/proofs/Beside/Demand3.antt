@@ -16,15 +16,18 @@ use Rattle.machine.specs.StillStore.{Store, empty_store}
 use Rattle.machine.specs.Kinds.{follows, beside}
 use Rattle.machine.specs.History.{InCopies, NoCopyTwice, History, no_history, with_copies, is_flip, flip_history, history_after, history_of, copied, copies_of, NoFlip}
 use Rattle.machine.specs.Live.Live.{live_of, size_of, filled_at}
-use Rattle.machine.proofs.Objects.Base.{In}
+use Rattle.machine.specs.Objects.Base.{In}
 use Rattle.machine.proofs.Beside.Collecting.{Exact}
 use Rattle.machine.proofs.Beside.Exactly.{counted}
 use Rattle.machine.proofs.Beside.Histories.{flip_history_lem}
 use Rattle.machine.proofs.Beside.Finish.{known_of}
 use Rattle.machine.proofs.Beside.Good.{Good}
-use Rattle.machine.proofs.Beside.Run.{Living, Proceeds, proceeds, good_run}
-use Rattle.machine.proofs.Beside.Rooms.{Suits, suits_on, suits_off}
+use Rattle.machine.specs.Beside.Run.{Living}
+use Rattle.machine.proofs.Beside.Run.{Proceeds, proceeds, good_run}
+use Rattle.machine.specs.Beside.Rooms.{Suits}
+use Rattle.machine.proofs.Beside.Rooms.{suits_on, suits_off}
 use Rattle.machine.proofs.Beside.Demand2.{good_after}
+use Rattle.machine.specs.Beside.Demand3.{Lasts, AllSuit}
 
 -- the number of copies, on and off
 pub copies_are : {l : Limits} {w : Store} {hy : History} {t : Table} {ws : List ℕ} → Good l w hy t ws → t.marks.copies ≡ length hy.copies
@@ -59,17 +62,6 @@ unfolding history_of copies_of
 history_between [] e h n = refl
 history_between (c ∷ cs) e h n =
     ap (λ (k : History). history_of cs (then c e) k) (one_history c e h n.0) ∙ history_between cs (then c e) (with_copies h (copied c e (then c e) h.copies)) n.1
-
--- ---- the step that makes a flip
--- while every call of the list finds the collector on
-abbrev pub Lasts : List Call → Ends → Type 0
-Lasts [] e = Unit {0}
-Lasts (c ∷ cs) e = (e.out.table.on ≡ true) × Lasts cs (then c e)
-
--- none of them answers 9 or 10
-abbrev pub AllSuit : List Call → Ends → Type 0
-AllSuit [] e = Unit {0}
-AllSuit (c ∷ cs) e = Suits c e × AllSuit cs (then c e)
 
 -- a collection from a state on, with the sum for what lived at its flip
 all_suit : (l : Limits) (w : Store) (hy : History) (cs : List Call) (e : Ends) → Good l w hy e.out.table e.words

@@ -16,8 +16,9 @@ use Rattle.machine.proofs.Objects.Inv.{Reach, Colours, Inv}
 use Rattle.machine.proofs.Objects.MoveLaws.{at_place_lem}
 use Rattle.machine.proofs.Objects.Counts.{claims, new_words, is_grey, owing}
 use Rattle.machine.proofs.Objects.CountBound.{copies_bound}
-use Rattle.machine.proofs.Agree.Agree.{Agree, bottom, end}
-use Rattle.machine.proofs.Beside.Room.{place_needs}
+use Rattle.machine.specs.Agree.Agree.{end}
+use Rattle.machine.proofs.Agree.Agree.{Agree, bottom}
+use Rattle.machine.specs.Beside.Room.{place_needs}
 use Rattle.machine.proofs.Beside.Collecting.{Collecting}
 use Rattle.machine.proofs.Beside.RoomLaws.{sum_two, sum_short, sum_each, sum_but_one, sum_with, paid_quotient, old_words, claims_split, old_words_lem, only_old, new_none, unplaced_none}
 

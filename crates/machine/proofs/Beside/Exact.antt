@@ -12,12 +12,15 @@ use Rattle.machine.specs.Gate.{sizes_ok}
 use Rattle.machine.specs.Setup.{setup_of}
 use Rattle.machine.specs.Call.{Call}
 use Rattle.machine.specs.Calls.{then, run}
-use Rattle.machine.proofs.Beside.Run.{Living}
+use Rattle.machine.specs.Beside.Run.{Living}
 use Rattle.machine.proofs.Beside.Demand2.{good_after}
-use Rattle.machine.proofs.Beside.WaitsFor.{WaitsFor, waits_for}
-use Rattle.machine.proofs.Beside.Grey.{NothingGrey, IsHeld}
-use Rattle.machine.proofs.Beside.Reasons.{TooFull, NoneLeft, ends_early, flips_for_room, nine_for_room}
-use Rattle.machine.proofs.Beside.HeldBegins.{Begins, begun_free, seven_held}
+use Rattle.machine.specs.Beside.WaitsFor.{WaitsFor}
+use Rattle.machine.proofs.Beside.WaitsFor.{waits_for}
+use Rattle.machine.specs.Beside.Grey.{NothingGrey, IsHeld}
+use Rattle.machine.specs.Beside.Reasons.{TooFull, NoneLeft}
+use Rattle.machine.proofs.Beside.Reasons.{ends_early, flips_for_room, nine_for_room}
+use Rattle.machine.specs.Beside.HeldBegins.{Begins}
+use Rattle.machine.proofs.Beside.HeldBegins.{begun_free, seven_held}
 
 module _ (t₀ : Table) (l : Limits) (ws₀ : List ℕ) (accepted : sizes_ok l (length ws₀) ≡ true) (cs : List Call) (living : Living cs (setup_of t₀ l ws₀)) where
   -- the run so far

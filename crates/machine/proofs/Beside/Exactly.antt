@@ -4,7 +4,7 @@ use Rattle.std.proofs.Common.{ap, sym, ◌∙◌, inl, inr, arith}
 use Rattle.std.proofs.lemmas.List.{length-map}
 use Rattle.table.specs.declared.Table.{Table}
 use Rattle.machine.specs.History.{Copy, InCopies, NoCopyTwice, History}
-use Rattle.machine.proofs.Objects.Base.{In}
+use Rattle.machine.specs.Objects.Base.{In}
 use Rattle.machine.proofs.Objects.State.{State, count}
 use Rattle.machine.proofs.Objects.Inv.{Reach}
 use Rattle.machine.proofs.Objects.HeadLaws.{placed_seen}

@@ -38,7 +38,7 @@ use Rattle.machine.specs.Fill.{fill_write_in, fill_write_of, fill_copy_in, fill_
 use Rattle.machine.specs.Store.{store_write_in, store_write_of, meet_copying, unmet_case, meet_in, meet_of, store_copy_in, store_copy_of}
 use Rattle.machine.specs.Pay.{take_count, take_in, take_of, read_case, read_of, put_in, put_of, paid, release_in, release_of}
 use Rattle.machine.specs.Step.{take_step_of, off_step_of, on_step_of, task_step_of, step_through, step_of}
-use Rattle.machine.proofs.Beside.Waits.{waits, waits_then}
+use Rattle.machine.specs.Beside.Waits.{waits, waits_then}
 use Rattle.machine.proofs.Beside.Changes.{pick_all}
 use Rattle.machine.proofs.Beside.StepChanges.{Stepped, Fair, creating_new, creating_asked, refuses, settled, empty_take, new_off, new_on}
 

@@ -9,7 +9,7 @@ use Rattle.machine.specs.Numbers.{refusal}
 use Rattle.machine.specs.Flip.{passes_of}
 use Rattle.machine.specs.Live.Live.{gather, live_of, size_of}
 use Rattle.machine.proofs.Live.SearchLaws.{in_left, in_right, in_either, in_gather, gather_in}
-use Rattle.machine.proofs.Objects.Base.{In}
+use Rattle.machine.specs.Objects.Base.{In}
 use Rattle.machine.proofs.Objects.State.{State, root, pending_is}
 use Rattle.machine.proofs.Objects.Inv.{Inv}
 use Rattle.machine.proofs.Objects.Flipped.{Restful, Comes}

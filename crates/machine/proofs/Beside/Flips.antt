@@ -36,7 +36,7 @@ use Rattle.machine.proofs.Objects.Ends.{asks}
 use Rattle.machine.proofs.Objects.Flipped.{Restful, Left}
 use Rattle.machine.proofs.Objects.FlipInv.{flip_inv, readied}
 use Rattle.machine.proofs.Agree.Encode.{at_place}
-use Rattle.machine.proofs.Agree.Agree.{end}
+use Rattle.machine.specs.Agree.Agree.{end}
 use Rattle.machine.proofs.Agree.Enter.{entered_place, moves_agree}
 use Rattle.machine.proofs.Agree.Search.{no_blocker}
 use Rattle.machine.proofs.Agree.FlipWords.{FlipMade, flip_words, flip_agree, made_counts}

@@ -20,7 +20,8 @@ use Rattle.machine.proofs.Objects.Base.{off_on}
 use Rattle.machine.proofs.Objects.State.{State}
 use Rattle.machine.proofs.Objects.Inv.{Inv}
 use Rattle.machine.proofs.Agree.Encode.{at_task}
-use Rattle.machine.proofs.Agree.Agree.{Agree, bottom, end}
+use Rattle.machine.specs.Agree.Agree.{end}
+use Rattle.machine.proofs.Agree.Agree.{Agree, bottom}
 use Rattle.machine.proofs.Agree.Home.{Home}
 use Rattle.machine.specs.Words.{room_of}
 use Rattle.machine.specs.Switch.{switch_due}

@@ -16,27 +16,13 @@ use Rattle.machine.specs.Begin.{held_at}
 use Rattle.machine.specs.StillStore.{Store}
 use Rattle.machine.proofs.Objects.Base.{off_on}
 use Rattle.machine.proofs.Objects.State.{ClaimIn, jobs_in}
-use Rattle.machine.proofs.Agree.Agree.{end}
+use Rattle.machine.specs.Agree.Agree.{end}
 use Rattle.machine.proofs.Agree.Holdings.{at_holding, holding_at, claim_works, job_works}
 use Rattle.machine.proofs.Agree.Lowest.{found_at}
 use Rattle.machine.proofs.Agree.Search.{found_is, none, sum_pos, sought_at, not_grey}
 use Rattle.machine.proofs.Beside.Good.{Good}
-use Rattle.machine.proofs.Beside.WaitsFor.{holds}
-
--- "on the stack, in hand, or claimed and not yet placed": nothing is
-abbrev pub NothingGrey : Table → Type 0
-NothingGrey t = (t.marks.top ≡ end t) × ((q : ℕ) → q < t.limits.p → works_of (holds t q) ≡ false)
-
--- "a flip is asked and not yet made", and "nothing is grey but a task is busy"
-abbrev pub FlipAsked : Table → Type 0
-FlipAsked t = (q : ℕ) × (q < t.limits.p) × (asks_of (holds t q) ≡ true)
-
-abbrev pub Closing : Table → Type 0
-Closing t = NothingGrey t × (q : ℕ) × (q < t.limits.p) × (idle_of (holds t q) ≡ false)
-
-abbrev pub IsHeld : Table → Bool → Type 0
-IsHeld t false = FlipAsked t
-IsHeld t true = Closing t
+use Rattle.machine.specs.Beside.WaitsFor.{holds}
+use Rattle.machine.specs.Beside.Grey.{NothingGrey, FlipAsked, Closing, IsHeld}
 
 -- ---- what is held, by job and claim
 works_none : (pa : ℕ → ℕ) (h : Holding) → jobs_in h ≡ 0 → ((x : ℕ) → ClaimIn h x → ⊥) → works_of (at_holding pa h) ≡ false

@@ -31,7 +31,9 @@ use Rattle.machine.proofs.Objects.Base.{clash}
 use Rattle.machine.proofs.Agree.Gates.{call_gate_lem, pair_gate_lem}
 use Rattle.machine.proofs.Beside.Good.{Good}
 use Rattle.machine.proofs.Beside.Changes.{pick_all}
-use Rattle.machine.proofs.Beside.Grey.{IsHeld, held_is, held_not}
+use Rattle.machine.specs.Beside.Grey.{IsHeld}
+use Rattle.machine.proofs.Beside.Grey.{held_is, held_not}
+use Rattle.machine.specs.Beside.HeldBegins.{Begins}
 
 -- the answer's 7 is right: accepted only if not held, 7 only if held
 abbrev Right : Table → Outcome → Type 0
@@ -111,22 +113,6 @@ module _ {l : Limits} {w : Store} {hy : History} {t : Table} {ws : List ℕ} (g 
       on true false true = r3 t
       on true false false = r
       on false d e = refuses t 2 (λ e. let z : ◌≡◌ {A = ℕ} 0 1 = cc in clash z)
-
--- the calls that begin an instruction
-abbrev pub Begins : Call → Type 0
-Begins (Call.New task r len m) = Unit {0}
-Begins (Call.Fill task w) = Unit {0}
-Begins (Call.FillPointer task r) = Unit {0}
-Begins (Call.Load task to from slot) = ⊥
-Begins (Call.Store task o slot w) = Unit {0}
-Begins (Call.StorePointer task o slot r) = Unit {0}
-Begins (Call.Move task to from) = ⊥
-Begins (Call.Clear task r) = ⊥
-Begins (Call.Same task a b) = ⊥
-Begins (Call.Put task root r) = ⊥
-Begins (Call.Get task r root) = ⊥
-Begins (Call.Step task) = ⊥
-Begins Call.Report = ⊥
 
 module _ {l : Limits} {w : Store} {hy : History} {t : Table} {ws : List ℕ} (g : Good l w hy t ws) where
   new_right : (task r len m : ℕ) → Right t (begin_new_of t ws task r len m)

@@ -11,7 +11,8 @@ use Rattle.machine.specs.Live.Reachable.{Reachable, Pending}
 use Rattle.machine.specs.Live.Live.{total, live_of, length_at, size_of, filled_at}
 use Rattle.machine.proofs.Live.Laws.{reachable_live, pending_live, live_is}
 use Rattle.machine.proofs.Live.Filled.{filled_whole, filled_pending}
-use Rattle.machine.proofs.Objects.Base.{In, sum_to}
+use Rattle.machine.specs.Objects.Base.{In}
+use Rattle.machine.proofs.Objects.Base.{sum_to}
 use Rattle.machine.proofs.Objects.State.{Hd, Shape, State, Meeting}
 use Rattle.machine.proofs.Objects.Inv.{Reach, Unfull, PlaceOk, Inv}
 use Rattle.machine.proofs.Objects.Ops.{found_in, flips}

@@ -30,7 +30,8 @@ use Rattle.machine.proofs.Objects.Ops.{goes, moves, heads, twins}
 use Rattle.machine.proofs.Objects.MoveLaws.{at_place_lem}
 use Rattle.machine.proofs.Objects.HeadSteps.{look_claims, look_goes, places}
 use Rattle.machine.proofs.Agree.Encode.{at_primary, at_then, at_place, at_task}
-use Rattle.machine.proofs.Agree.Agree.{Agree, Held, end}
+use Rattle.machine.specs.Agree.Agree.{end}
+use Rattle.machine.proofs.Agree.Agree.{Agree, Held}
 use Rattle.machine.proofs.Agree.Names.{sound_held}
 use Rattle.machine.proofs.Agree.MidwayRead.{found_by}
 use Rattle.machine.proofs.Agree.Read.{look_of_lem}

@@ -19,16 +19,10 @@ use Rattle.machine.proofs.Agree.Names.{pa_inj}
 use Rattle.machine.proofs.Agree.Complete.{register_of_lem}
 use Rattle.machine.proofs.Beside.StillLaws.{still_register}
 use Rattle.machine.proofs.Beside.Good.{Good}
-use Rattle.machine.proofs.Beside.Run.{Living, Proceeds, proceeds}
+use Rattle.machine.specs.Beside.Run.{Living}
+use Rattle.machine.proofs.Beside.Run.{Proceeds, proceeds}
 use Rattle.machine.proofs.Beside.Demand2.{good_after}
-
--- One address for each object, nil's is 0: every register holds that of the object in the store's register, and two
--- registers with the same address hold the same object.
-pub record Names (t : Table) (s : Store) : Type 0 where
-  pub address : ℕ → ℕ
-  pub nil : address 0 ≡ 0
-  pub registers : (u r : ℕ) → u < 8 → (register (task_at t u) r).0 ≡ address (held s u r)
-  pub apart : (u r k q : ℕ) → u < 8 → k < 8 → (register (task_at t u) r).0 ≡ (register (task_at t k) q).0 → held s u r ≡ held s k q
+use Rattle.machine.specs.Beside.Named.{Names}
 
 pub names : {l : Limits} {w : Store} {hy : History} {t : Table} {ws : List ℕ} → Good l w hy t ws → Names t w
 names {w = w} {t = t} g = record { address = g.pa; nil = g.agree.lay.nilp; registers = named; apart = different }

@@ -34,7 +34,8 @@ use Rattle.machine.proofs.Objects.MoveLaws.{at_place_lem, upd_twice}
 use Rattle.machine.proofs.Objects.NewSteps.{new_on, new_off}
 use Rattle.machine.proofs.Objects.Ends.{new_ends}
 use Rattle.machine.proofs.Agree.Encode.{at_place, at_task}
-use Rattle.machine.proofs.Agree.Agree.{bottom, end}
+use Rattle.machine.specs.Agree.Agree.{end}
+use Rattle.machine.proofs.Agree.Agree.{bottom}
 use Rattle.machine.proofs.Agree.Enter.{entered_moved, entered_ended}
 use Rattle.machine.proofs.Agree.Block.{make_on_tasks, make_off_tasks}
 use Rattle.machine.proofs.Agree.Make.{made_at, make_on_agree, make_off_agree}

@@ -12,7 +12,9 @@ use Rattle.machine.specs.Calls.{then, run}
 use Rattle.machine.specs.StillStore.{task_of}
 use Rattle.machine.specs.Opened.{started, opened}
 use Rattle.machine.proofs.Beside.Others.{entries_long}
-use Rattle.machine.proofs.Beside.Moment.{waits, writes, begins, kinds_of, written_in, begun_in, written_by, begun_by, moment_one, moment}
+use Rattle.machine.specs.Beside.Moment.{begins, kinds_of, written_in, begun_in, written_by, begun_by}
+use Rattle.machine.proofs.Beside.Moment.{waits, writes, moment_one, moment}
+use Rattle.machine.specs.Beside.OneStep.{WrittenAt}
 
 pub waits_once : (p : Place) → waits p ≤ 1
 waits_once Idle = omega arith
@@ -71,15 +73,6 @@ once i c cs e l b n z = on (step_of i c e)
     on (inl q) = absurd (omega (arith, q.1, b))
     on (inr q) =
         omega (arith, moment_one i c e l, moment i cs (then c e) (omega (arith, entries_long c e.out.table e.words)), waits_once (task_at (then c e).out.table i).place, b, n, z, q)
-
--- the step that wrote: a step of task i, before and after which none did
-pub record WrittenAt (i : ℕ) (cs : List Call) (e : Ends) : Type 0 where
-  pub before : List Call
-  pub after : List Call
-  pub split : cs ≡ before ++ (Call.Step i ∷ after)
-  pub none_before : written_by i before e ≡ 0
-  pub here : written_in i (Call.Step i) (run before e) ≡ 1
-  pub none_after : written_by i after (then (Call.Step i) (run before e)) ≡ 0
 
 pub written_at : (i : ℕ) (cs : List Call) (e : Ends) → written_by i cs e ≡ 1 → WrittenAt i cs e
 unfolding written_by run

@@ -18,6 +18,7 @@ use Rattle.machine.specs.Kinds.{follows}
 use Rattle.machine.proofs.Beside.Changes.{Answered, stayed, entered, move_entries, clear_entries, put_entries, get_entries, same_entries, load_entries, report_entries, new_entries, fill_entries, fill_pointer_entries, store_entries, store_pointer_entries}
 use Rattle.machine.proofs.Beside.StepChanges.{Stepped, stands, goes, flips, switches}
 use Rattle.machine.proofs.Beside.Fair.{step_entries}
+use Rattle.machine.specs.Beside.Others.{Untouched}
 
 -- ---- the first n made new
 pub first_at : {A : Type 0} (n : ℕ) (new : A → A) (l : List A) (u : ℕ) (d : A)
@@ -72,14 +73,6 @@ entries_long c t ws = on (changed c t ws)
     on : Changed c t (call c t ws) → length (call c t ws).out.table.tasks ≡ length t.tasks
     on (answered b q) = answered_long b t (task_of c) _ q
     on (stepped s q) = stepped_long t (task_of c) _ _ q
-
--- ---- the entry of task u, which the call does not name
--- as it was; or as a flip made by a step leaves it, an asked New begun; or as a switch-over made by a step leaves it
-abbrev pub Untouched : Call → Table → Ends → ℕ → Type 0
-Untouched c t f u =
-    (task_at f.out.table u ≡ task_at t u)
-    ⊎ (((c ≡ Call.Step (task_of c)) × (t.on ≡ false) × (f.out.table.on ≡ true) × (task_at f.out.table u ≡ unasked_entry (task_at t u)))
-    ⊎ ((c ≡ Call.Step (task_of c)) × (t.on ≡ true) × (f.out.table.on ≡ false) × (task_at f.out.table u ≡ new_entry f.words t.limits.s (task_at t u))))
 
 answered_other : (b : Answer → ℕ) (t : Table) (i : ℕ) (o : Outcome) (u : ℕ) → u ≢ i → Answered b t i o → task_at o.table u ≡ task_at t u
 answered_other b t i o u d (stayed e a z) = ap (λ l. get_or l u no_task) e

@@ -30,7 +30,8 @@ use Rattle.machine.proofs.Objects.MoveLaws.{at_place_lem}
 use Rattle.machine.proofs.Objects.PaySteps.{takes}
 use Rattle.machine.proofs.Objects.Ends.{take_ends}
 use Rattle.machine.proofs.Agree.Encode.{at_place}
-use Rattle.machine.proofs.Agree.Agree.{Held, end}
+use Rattle.machine.specs.Agree.Agree.{end}
+use Rattle.machine.proofs.Agree.Agree.{Held}
 use Rattle.machine.proofs.Agree.Read.{copying_of_lem, stack_of, stack_room, stack_empty}
 use Rattle.machine.proofs.Agree.Heads.{take_agree}
 use Rattle.machine.proofs.Agree.Search.{worker_found, not_grey}

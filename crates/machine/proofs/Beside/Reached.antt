@@ -12,7 +12,8 @@ use Rattle.table.specs.declared.Table.{Table}
 use Rattle.machine.specs.Words.{primary}
 use Rattle.machine.specs.Entries.{task_at, nil}
 use Rattle.machine.specs.Live.Reachable.{Points, Reachable, in_register, in_root, in_pending, in_slot, Pending}
-use Rattle.machine.proofs.Objects.Base.{clash, In}
+use Rattle.machine.specs.Objects.Base.{In}
+use Rattle.machine.proofs.Objects.Base.{clash}
 use Rattle.machine.proofs.Objects.State.{State, root, pending_is}
 use Rattle.machine.proofs.Objects.Inv.{Sound, Reach, from, edge, PendingOk, Unfull, Inv}
 use Rattle.machine.proofs.Objects.Ops.{found_in}

@@ -43,12 +43,14 @@ use Rattle.machine.specs.New.{new_off_of, new_on_of}
 use Rattle.machine.specs.Step.{wait_for, wait_of, settle_of, empty_take_of, take_step_of, off_step_of, on_step_of, place_step_or, task_step_of, step_through, step_of}
 use Rattle.machine.specs.StillStore.{Store}
 use Rattle.machine.proofs.Objects.Base.{clash, off_on}
-use Rattle.machine.proofs.Agree.Agree.{end}
+use Rattle.machine.specs.Agree.Agree.{end}
 use Rattle.machine.proofs.Agree.Gates.{call_gate_lem}
 use Rattle.machine.proofs.Beside.Good.{Good}
 use Rattle.machine.proofs.Beside.Changes.{pick_all}
 use Rattle.machine.proofs.Beside.Fair.{forwarded_all}
-use Rattle.machine.proofs.Beside.Grey.{NothingGrey, nothing_grey}
+use Rattle.machine.specs.Beside.Grey.{NothingGrey}
+use Rattle.machine.proofs.Beside.Grey.{nothing_grey}
+use Rattle.machine.specs.Beside.Reasons.{TooFull, NoneLeft}
 
 -- a step that answers x shows G
 abbrev Shows : Answer → Type 0 → Ended → Type 0
@@ -141,13 +143,6 @@ module _ (t : Table) (i : ℕ) (x : Answer) (G : Type 0) (damaged : No (refusal 
       (λ b. h) (λ b. damaged))
       (λ a. damaged))
       (λ due. h)
-
--- less room than a New of this length needs: while collecting, and while off
-abbrev pub TooFull : Table → ℕ → Type 0
-TooFull t len = t.marks.top - t.marks.a - t.marks.j < 2 * (len + 2)
-
-abbrev pub NoneLeft : Table → ℕ → Type 0
-NoneLeft t len = end t - t.marks.a < len + 2
 
 unmoved : {G : Type 0} {y : Refusal} → No y ≡ Moved → G
 unmoved e = let z : ◌≡◌ {A = ℕ} 0 1 = cc in clash z

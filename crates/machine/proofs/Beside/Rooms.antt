@@ -29,14 +29,16 @@ use Rattle.machine.proofs.Agree.Gates.{call_gate_lem}
 use Rattle.machine.proofs.Agree.Names.{sound_held}
 use Rattle.machine.proofs.Agree.Read.{object_of_lem}
 use Rattle.machine.proofs.Agree.Search.{no_blocker}
-use Rattle.machine.proofs.Beside.Room.{WantsRoom}
+use Rattle.machine.specs.Beside.Room.{WantsRoom}
 use Rattle.machine.proofs.Beside.RoomLaws.{sum_out}
 use Rattle.machine.proofs.Beside.Enough.{new_room, place_fits}
 use Rattle.machine.proofs.Beside.FlipFits.{flip_fits_live}
 use Rattle.machine.proofs.Beside.Good.{Good, Crowded}
 use Rattle.machine.proofs.Beside.Glue.{entry_of}
-use Rattle.machine.proofs.Beside.Run.{Spends, Well, Proceeds, proceeds}
+use Rattle.machine.specs.Beside.Run.{Spends}
+use Rattle.machine.proofs.Beside.Run.{Well, Proceeds, proceeds}
 use Rattle.machine.proofs.Beside.Demand2.{not_spent}
+use Rattle.machine.specs.Beside.Rooms.{Suits}
 
 -- an object has one length
 one_length : (len m a b : ℕ) → Whole len m ≡ Whole a b → len ≡ a
@@ -117,11 +119,6 @@ module _ {l : Limits} {w : Store} {hy : History} {t : Table} {ws : List ℕ} (g 
     flip_never i ip (Release n x k) pe h = h
     flip_never i ip (Looking q th) pe h = h
     flip_never i ip (Placing q th) pe h = off_on (sym rests ∙ (at_place_lem g.inv i (Placing q th) pe).0)
-
--- ---- one call
--- it answers neither 9 nor 10
-abbrev pub Suits : Call → Ends → Type 0
-Suits c e = ((then c e).out.answer ≢ No NoRoom) × ((then c e).out.answer ≢ No Exhausted)
 
 -- a step of no task is refused as that
 none_steps : {l : Limits} {w : Store} {hy : History} {t : Table} {ws : List ℕ} → Good l w hy t ws → (i : ℕ) → ltb i t.limits.p ≡ false → (step_of t ws i).out.answer ≡ No NoTask

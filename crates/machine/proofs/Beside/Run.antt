@@ -21,28 +21,13 @@ use Rattle.machine.specs.Calls.{then, run}
 use Rattle.machine.specs.StillStore.{Store, Kind, told, happen_all}
 use Rattle.machine.specs.Kinds.{follows, beside, step_kinds}
 use Rattle.machine.proofs.Agree.Gates.{call_gate_lem}
-use Rattle.machine.proofs.Beside.Room.{WantsRoom}
+use Rattle.machine.specs.Beside.Room.{WantsRoom}
 use Rattle.machine.proofs.Beside.Histories.{as_it_was, no_copy, history_is}
 use Rattle.machine.proofs.Beside.Good.{Good, Undamaged, Fine, Comes}
 use Rattle.machine.proofs.Beside.Glue.{entry_of}
 use Rattle.machine.proofs.Beside.Steps.{step_at}
 use Rattle.machine.proofs.Beside.Calls.{call_keeps}
-
--- why a call may answer 10: a step of a task whose place wants more room than there is
-abbrev pub Spends : Call → Table → List ℕ → Type 0
-Spends (Call.New task r len m) t ws = ⊥
-Spends (Call.Fill task w) t ws = ⊥
-Spends (Call.FillPointer task r) t ws = ⊥
-Spends (Call.Load task to from slot) t ws = ⊥
-Spends (Call.Store task o slot w) t ws = ⊥
-Spends (Call.StorePointer task o slot r) t ws = ⊥
-Spends (Call.Move task to from) t ws = ⊥
-Spends (Call.Clear task r) t ws = ⊥
-Spends (Call.Same task a b) t ws = ⊥
-Spends (Call.Put task root r) t ws = ⊥
-Spends (Call.Get task r root) t ws = ⊥
-Spends (Call.Step task) t ws = WantsRoom t ws task (task_at t task).place
-Spends Call.Report t ws = ⊥
+use Rattle.machine.specs.Beside.Run.{Spends, Living}
 
 -- the answer is neither 10 nor 11, and 9 only comes to a step of a New for want of room
 abbrev pub Well : Call → Table → Answer → Type 0
@@ -122,11 +107,6 @@ proceeds l w hy (Call.Put task root r) e g = inr (call_keeps g (Call.Put task ro
 proceeds l w hy (Call.Get task r root) e g = inr (call_keeps g (Call.Get task r root) tt)
 proceeds l w hy (Call.Step task) e g = step_proceeds l w hy task e g
 proceeds l w hy Call.Report e g = inr (call_keeps g Call.Report tt)
-
--- no call of the run has answered 10
-abbrev pub Living : List Call → Ends → Type 0
-Living [] e = Unit {0}
-Living (c ∷ cs) e = ((then c e).out.answer ≢ No Exhausted) × Living cs (then c e)
 
 pub good_run : (l : Limits) (cs : List Call) (e : Ends) (w : Store) (hy : History) → Good l w hy e.out.table e.words → Living cs e
     → Good l (beside cs e w) (history_of cs e hy) (run cs e).out.table (run cs e).words

@@ -34,7 +34,8 @@ use Rattle.machine.specs.Flip.{unasked_entry, flip_end, passes_of, flip_of}
 use Rattle.machine.specs.New.{ask_or, new_off_of, room_for_two, new_on_of}
 use Rattle.machine.specs.Step.{wait_for, wait_of, settle_of, empty_take_of}
 use Rattle.machine.specs.Kinds.{pays, done_kinds, moved_kinds, step_kinds}
-use Rattle.machine.proofs.Beside.Waits.{waits, writes, refused_writes}
+use Rattle.machine.specs.Beside.Waits.{waits, writes}
+use Rattle.machine.proofs.Beside.Waits.{refused_writes}
 use Rattle.machine.proofs.Beside.Changes.{pick_all, marked_tasks, marked_on}
 
 -- a step of a task that stood at `before`, and now stands at `after`, writes what no longer waits

@@ -29,7 +29,7 @@ use Rattle.machine.proofs.Objects.MoveLaws.{at_place_lem}
 use Rattle.machine.proofs.Agree.Encode.{at_pending, at_storing, at_place, at_task}
 use Rattle.machine.proofs.Agree.Names.{sound_held}
 use Rattle.machine.proofs.Agree.Read.{object_of_lem}
-use Rattle.machine.proofs.Beside.Room.{WantsRoom}
+use Rattle.machine.specs.Beside.Room.{WantsRoom}
 use Rattle.machine.proofs.Beside.Stands.{Stands, busy_there}
 use Rattle.machine.proofs.Beside.Histories.{as_it_was, history_is}
 use Rattle.machine.proofs.Beside.Good.{Good, Comes}

@@ -24,15 +24,15 @@ use Rattle.machine.proofs.Objects.Base.{clash}
 use Rattle.machine.proofs.Agree.Gates.{call_gate_lem, pair_gate_lem}
 use Rattle.machine.proofs.Agree.Complete.{task_in}
 use Rattle.machine.proofs.Beside.Good.{Good}
-use Rattle.machine.proofs.Beside.Moment.{waits, written_in, begun_in, written_by, begun_by, moment_one}
-use Rattle.machine.proofs.Beside.OneStep.{waits_once, once, WrittenAt, written_at}
-use Rattle.machine.proofs.Beside.Run.{Living, Proceeds, proceeds, good_run}
+use Rattle.machine.specs.Beside.Moment.{written_in, begun_in, written_by, begun_by}
+use Rattle.machine.proofs.Beside.Moment.{waits, moment_one}
+use Rattle.machine.specs.Beside.OneStep.{WrittenAt}
+use Rattle.machine.proofs.Beside.OneStep.{waits_once, once, written_at}
+use Rattle.machine.specs.Beside.Run.{Living}
+use Rattle.machine.proofs.Beside.Run.{Proceeds, proceeds, good_run}
 use Rattle.machine.proofs.Beside.Demand2.{good_after}
 use Rattle.machine.proofs.Beside.Before.{Unwritten, slot_until, slot_after}
-
--- what slot j of object x holds in the store
-abbrev pub slot_of : Store → ℕ → ℕ → ℕ
-slot_of s x j = get_or (thing_at s x).slots j 0
+use Rattle.machine.specs.Beside.Stored.{slot_of, StoreMoment}
 
 -- ---- one list of calls after another
 pub beside_append : (cs ds : List Call) (e : Ends) (s : Store) → beside (cs ++ ds) e s ≡ beside ds (run cs e) (beside cs e s)
@@ -108,14 +108,6 @@ module _ {l : Limits} {w : Store} {hy : History} (e : Ends) (g : Good l w hy e.o
   unfolding happen_all
   store_pointer_opens i o slot r h =
       opens (Call.StorePointer i o slot r) i (held w i o) slot (held w i r) (store_pointer_task i o slot r h) h (rw (eq-eqb i i refl, h)) (rw (eq-eqb i i refl)) (rw h)
-
--- ---- the runs
--- The Store of v into slot j of x, begun for task i by call c after cs, in the calls ds that come after: it is written in
--- one step of i; after every call before that step the slot is as it was before c, and after the step it holds v.
-pub record StoreMoment (start : Ends) (cs : List Call) (c : Call) (ds : List Call) (i x j v : ℕ) : Type 0 where
-  pub writing : WrittenAt i ds (then c (run cs start))
-  pub before : (bs rest : List Call) → writing.before ≡ bs ++ rest → slot_of (beside (cs ++ (c ∷ bs)) start empty_store) x j ≡ slot_of (beside cs start empty_store) x j
-  pub after : slot_of (beside (cs ++ (c ∷ (writing.before ++ (Call.Step i ∷ [])))) start empty_store) x j ≡ v
 
 module _ (t : Table) (l : Limits) (ws : List ℕ) (accepted : sizes_ok l (length ws) ≡ true) (cs : List Call) (living : Living cs (setup_of t l ws)) where
   abbrev start : Ends

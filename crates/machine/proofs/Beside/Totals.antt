@@ -4,7 +4,8 @@ use Rattle.std.proofs.Common.{sym, ◌∙◌, inl, inr, arith, eqb-true, ne_eqb}
 use Rattle.std.proofs.Math.Decide.{dec_lt}
 use Rattle.std.proofs.lemmas.Bool.{eqb-false}
 use Rattle.machine.specs.Basics.{pick}
-use Rattle.machine.proofs.Objects.Base.{In, sum_to, sum_to_ext}
+use Rattle.machine.specs.Objects.Base.{In}
+use Rattle.machine.proofs.Objects.Base.{sum_to, sum_to_ext}
 use Rattle.machine.proofs.Objects.FlipCounts.{sum_none}
 use Rattle.machine.specs.Live.Live.{total}
 

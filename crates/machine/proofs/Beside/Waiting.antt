@@ -25,7 +25,7 @@ use Rattle.machine.proofs.Beside.Still.{DoingThen, DoingAt}
 use Rattle.machine.proofs.Beside.Good.{Good}
 use Rattle.machine.proofs.Beside.Changes.{idle_waits}
 use Rattle.machine.proofs.Beside.Completes.{idle_rests}
-use Rattle.machine.proofs.Beside.Waits.{waits_then}
+use Rattle.machine.specs.Beside.Waits.{waits_then}
 use Rattle.machine.proofs.Beside.Moment.{waits}
 
 -- ---- one entry

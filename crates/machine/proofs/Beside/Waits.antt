@@ -8,37 +8,7 @@ use Rattle.machine.specs.Numbers.{Effect, harmless, endsNew, spends, breaks}
 use Rattle.machine.specs.Flip.{unasked}
 use Rattle.machine.specs.StillStore.{Kind, Made, Filled, Written, Ended}
 use Rattle.machine.specs.Kinds.{refused_kinds}
-
-abbrev pub waits_then : Then → ℕ
-waits_then (ToWrite v) = 1
-waits_then ToStoreCopy = 0
-waits_then ToFillCopy = 0
-waits_then (ToPut n x i) = 0
-
--- 1 for a task whose Store is begun and not yet written
-abbrev pub waits : Place → ℕ
-waits Idle = 0
-waits (New r len m) = 0
-waits (Asked r len m) = 0
-waits (FillWrite v) = 0
-waits (FillCopy c) = 0
-waits (StoreWrite v) = 1
-waits (Meet v) = 0
-waits (StoreCopy c) = 0
-waits (Take n) = 0
-waits (Read n x i) = 0
-waits (Put n x i c) = 0
-waits (Release n x i) = 0
-waits (Looking p next) = waits_then next
-waits (Placing p next) = waits_then next
-
--- how often a slot was written
-abbrev pub writes : List Kind → ℕ
-writes [] = 0
-writes (Made ∷ ks) = writes ks
-writes (Filled ∷ ks) = writes ks
-writes (Written ∷ ks) = suc (writes ks)
-writes (Ended ∷ ks) = writes ks
+use Rattle.machine.specs.Beside.Waits.{waits_then, waits, writes}
 
 -- a refusal writes nothing
 pub refused_writes : (x : Effect) → writes (refused_kinds x) ≡ 0

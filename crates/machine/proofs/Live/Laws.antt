@@ -12,7 +12,8 @@ use Rattle.table.specs.declared.Table.{Table}
 use Rattle.machine.specs.Basics.{pick}
 use Rattle.machine.specs.Words.{primary, length_in, pointers_in, object_of}
 use Rattle.machine.specs.Entries.{task_at, nil, register}
-use Rattle.machine.proofs.Objects.Base.{clash, In, Nodup}
+use Rattle.machine.specs.Objects.Base.{In}
+use Rattle.machine.proofs.Objects.Base.{clash, Nodup}
 use Rattle.machine.specs.Live.Reachable.{Points, Reachable, in_register, in_root, in_pending, in_slot, Pending}
 use Rattle.machine.specs.Live.Live.{gather, pointers_of, pointers_below, pointers_at, filled_pointers, pending_pointer, registers_of, roots_of, held_by, start_of, pendings_of, reached_of, live_of, length_at}
 use Rattle.machine.proofs.Live.SearchLaws.{in_left, in_right, in_either, in_gather, gather_in, length_gather, search_once, search_keeps, search_only, unseen, unseen_nil, unseen_none, Found, search_finds}

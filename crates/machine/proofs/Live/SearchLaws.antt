@@ -4,7 +4,8 @@ use Rattle.std.proofs.Common.{sym, ◌∙◌, inl, inr, arith, length-append, eq
 use Rattle.std.proofs.Math.Decide.{ℕ_discrete, dec_lt}
 use Rattle.std.proofs.lemmas.Bool.{eqb-false}
 use Rattle.machine.specs.Basics.{pick}
-use Rattle.machine.proofs.Objects.Base.{off_on, In, Nodup, sum_to, sum_to_ext, sum_to_at}
+use Rattle.machine.specs.Objects.Base.{In}
+use Rattle.machine.proofs.Objects.Base.{off_on, Nodup, sum_to, sum_to_ext, sum_to_at}
 use Rattle.machine.specs.Live.Live.{memb, gather, known, search}
 
 -- ---- membership

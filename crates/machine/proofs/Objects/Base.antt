@@ -3,6 +3,7 @@ use Rattle.std.specs.Prelude.{◌≡◌, refl, ◌≢◌, ◌⊎◌, List, [], �
 use Rattle.std.proofs.Common.{ap, arith, get_or-set_same, get_or-set_other, eq-eqb, ne_eqb}
 use Rattle.std.proofs.Math.Decide.{ℕ_discrete}
 use Rattle.machine.specs.Basics.{pick}
+use Rattle.machine.specs.Objects.Base.{In}
 
 -- what cannot be shows anything
 pub clash : {A : Type 0} → ◌≡◌ {A = ℕ} 0 1 → A
@@ -72,11 +73,6 @@ at_slot x i P p q a j = go (here? a j x i)
     go : Dec ((a ≡ x) × (j ≡ i)) → P a j
     go (yes e) = rw (e.0, e.1) p
     go (no h) = q a j h
-
--- ---- membership, and lists with no number twice
-abbrev pub In : ℕ → List ℕ → Type 0
-In x [] = ⊥
-In x (y ∷ l) = (x ≡ y) ⊎ In x l
 
 abbrev pub Nodup : List ℕ → Type 0
 Nodup [] = Unit {0}

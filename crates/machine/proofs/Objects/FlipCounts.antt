@@ -11,7 +11,8 @@ use Rattle.table.specs.declared.Place.{Place}
 use Rattle.table.specs.declared.Place.TheVariants.{Idle, New, Asked, FillWrite, FillCopy, StoreWrite, Meet, StoreCopy, Take, Read, Put, Release, Looking, Placing}
 use Rattle.machine.specs.Basics.{pick}
 use Rattle.machine.specs.Flip.{unasked, unasked_entry}
-use Rattle.machine.proofs.Objects.Base.{In, sum_to, sum_to_ext}
+use Rattle.machine.specs.Objects.Base.{In}
+use Rattle.machine.proofs.Objects.Base.{sum_to, sum_to_ext}
 use Rattle.machine.proofs.Objects.State.{Hd, white, claimed, count, locked, Shape, State, IsSeen, IsPlaced, left}
 use Rattle.machine.proofs.Objects.Inv.{from, PendingOk, Off, Inv}
 use Rattle.machine.proofs.Objects.Ops.{found_in}

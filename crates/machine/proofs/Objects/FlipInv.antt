@@ -9,7 +9,8 @@ use Rattle.machine.specs.Entries.{nil}
 use Rattle.std.proofs.lemmas.Bool.{eqb-false}
 use Rattle.machine.specs.Basics.{pick}
 use Rattle.machine.specs.Flip.{unasked_entry}
-use Rattle.machine.proofs.Objects.Base.{upd_other, upd_all, In, Nodup}
+use Rattle.machine.specs.Objects.Base.{In}
+use Rattle.machine.proofs.Objects.Base.{upd_other, upd_all, Nodup}
 use Rattle.machine.proofs.Objects.State.{root, pending_is, Hd, count, State}
 use Rattle.machine.proofs.Objects.Flipped.{Restful, Comes, Left, Twinned, flipped_inv}
 use Rattle.machine.proofs.Objects.Inv.{Off, Inv}

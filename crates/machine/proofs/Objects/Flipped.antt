@@ -12,7 +12,8 @@ use Rattle.table.specs.declared.Place.{Place}
 use Rattle.table.specs.declared.Place.TheVariants.{Idle, New, Asked, FillWrite, FillCopy, StoreWrite, Meet, StoreCopy, Take, Read, Put, Release, Looking, Placing}
 use Rattle.table.specs.declared.Task.{Task}
 use Rattle.machine.specs.Flip.{unasked, unasked_entry}
-use Rattle.machine.proofs.Objects.Base.{clash, off_on, In, Nodup}
+use Rattle.machine.specs.Objects.Base.{In}
+use Rattle.machine.proofs.Objects.Base.{clash, off_on, Nodup}
 use Rattle.machine.proofs.Objects.State.{Hd, white, claimed, count, locked, Shape, State, IsSeen, IsPlaced, IsUnplaced, left, root, pending_is, Late, Meeting}
 use Rattle.machine.proofs.Objects.Inv.{Sound, Shapes, Reach, from, edge, Colours, PendingOk, EntryOk, PlaceOk, Owners, Inv}
 use Rattle.machine.proofs.Objects.Ops.{state, found_in}

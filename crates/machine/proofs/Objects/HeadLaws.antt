@@ -5,7 +5,8 @@ use Rattle.table.specs.declared.Pending.{Pending}
 use Rattle.table.specs.declared.Pending.TheVariants.{Nothing, Making}
 use Rattle.table.specs.declared.Place.{Place}
 use Rattle.table.specs.declared.Task.{Task}
-use Rattle.machine.proofs.Objects.Base.{upd, upd_other, upd_all, In, Nodup}
+use Rattle.machine.specs.Objects.Base.{In}
+use Rattle.machine.proofs.Objects.Base.{upd, upd_other, upd_all, Nodup}
 use Rattle.machine.proofs.Objects.State.{Hd, white, claimed, count, locked, Shape, Snapshot, State, IsSeen, IsPlaced, IsUnplaced, left, HasJob, HasClaim, MeetsAt, LateAt, Meeting, Late}
 use Rattle.machine.proofs.Objects.Inv.{Colours, PendingOk, PlaceOk, Inv}
 use Rattle.machine.proofs.Objects.Ops.{state, goes, push}

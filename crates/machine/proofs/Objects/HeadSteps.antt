@@ -11,7 +11,8 @@ use Rattle.table.specs.declared.Task.{Task}
 use Rattle.machine.specs.Words.{replica}
 use Rattle.machine.specs.Tasks.{holding_of}
 use Rattle.machine.specs.Look.{go_on}
-use Rattle.machine.proofs.Objects.Base.{clash, off_on, upd, upd_same, upd_other, In}
+use Rattle.machine.specs.Objects.Base.{In}
+use Rattle.machine.proofs.Objects.Base.{clash, off_on, upd, upd_same, upd_other}
 use Rattle.machine.proofs.Objects.State.{Hd, white, claimed, count, locked, Shape, Snapshot, State, IsPlaced, IsUnplaced, left, JobIn, ClaimIn, LateThen, LateAt, Meeting}
 use Rattle.machine.proofs.Objects.Inv.{Sound, Shapes, Colours, ThenOk, PlaceOk, Inv}
 use Rattle.machine.proofs.Objects.Ops.{goes, push, moves, heads, twins}

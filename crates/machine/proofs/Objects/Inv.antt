@@ -16,7 +16,8 @@ use Rattle.table.specs.declared.Task.{Task}
 use Rattle.machine.specs.Words.{operand_word, copied_word}
 use Rattle.machine.specs.Begin.{is_pointer}
 use Rattle.machine.specs.Setup.{fresh_task}
-use Rattle.machine.proofs.Objects.Base.{In, Nodup}
+use Rattle.machine.specs.Objects.Base.{In}
+use Rattle.machine.proofs.Objects.Base.{Nodup}
 use Rattle.machine.proofs.Objects.State.{Hd, white, claimed, count, locked, Shape, Snapshot, State, IsSeen, IsPlaced, IsUnplaced, left, root, pending_is, OfPending, OfStore, On, is_renamed, HasJob, HasClaim, Meeting, Late}
 
 -- K x: object x was not discarded by a flip (so x keeps its words; objects still to be made count as kept).

@@ -14,7 +14,8 @@ use Rattle.machine.specs.Basics.{pick}
 use Rattle.machine.specs.Words.{primary, replica, copied_word}
 use Rattle.machine.specs.Tasks.{holding_of}
 use Rattle.machine.specs.Look.{look_ahead}
-use Rattle.machine.proofs.Objects.Base.{clash, off_on, upd, upd_same, slot, slot_same, slot_other, at_slot, In}
+use Rattle.machine.specs.Objects.Base.{In}
+use Rattle.machine.proofs.Objects.Base.{clash, off_on, upd, upd_same, slot, slot_same, slot_other, at_slot}
 use Rattle.machine.proofs.Objects.State.{Hd, count, locked, Shape, Snapshot, State, IsSeen, IsPlaced, left, HasJob, is_renamed, Meeting, Late}
 use Rattle.machine.proofs.Objects.Inv.{Sound, SoundCopied, Colours, PlaceOk, Inv}
 use Rattle.machine.proofs.Objects.Ops.{goes, push, moves, heads, copies}

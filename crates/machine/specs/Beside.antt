@@ -1,0 +1,15 @@
+pub mod Changes
+pub mod Demand3
+pub mod Grey
+pub mod HeldBegins
+pub mod Moment
+pub mod Named
+pub mod OneStep
+pub mod Others
+pub mod Reasons
+pub mod Room
+pub mod Rooms
+pub mod Run
+pub mod Stored
+pub mod Waits
+pub mod WaitsFor

@@ -1,0 +1,20 @@
+-- Refusal 7: a New, Fill or Store that is begun is not held, and one that is refused with 7 is: a flip is asked, or the heap is closing.
+use Rattle.table.specs.declared.Place.TheVariants.{New}
+use Rattle.machine.specs.Call.{Call}
+use Rattle.machine.specs.StillStore.{Store}
+
+-- the calls that begin an instruction
+abbrev pub Begins : Call → Type 0
+Begins (Call.New task r len m) = Unit {0}
+Begins (Call.Fill task w) = Unit {0}
+Begins (Call.FillPointer task r) = Unit {0}
+Begins (Call.Load task to from slot) = ⊥
+Begins (Call.Store task o slot w) = Unit {0}
+Begins (Call.StorePointer task o slot r) = Unit {0}
+Begins (Call.Move task to from) = ⊥
+Begins (Call.Clear task r) = ⊥
+Begins (Call.Same task a b) = ⊥
+Begins (Call.Put task root r) = ⊥
+Begins (Call.Get task r root) = ⊥
+Begins (Call.Step task) = ⊥
+Begins Call.Report = ⊥

@@ -1,0 +1,7 @@
+-- Functions changed at one number, lists without a number twice, and sums: what the theory of the heap leans on.
+use Rattle.std.specs.Prelude.{◌≡◌, ◌⊎◌, List, [], ◌∷◌, ℕ}
+
+-- ---- membership, and lists with no number twice
+abbrev pub In : ℕ → List ℕ → Type 0
+In x [] = ⊥
+In x (y ∷ l) = (x ≡ y) ⊎ In x l

@@ -1,1 +1,3 @@
+#![tactic(auto)]
+
 // Definitions and theorems only, in specs/. No code.

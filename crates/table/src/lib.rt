@@ -1,5 +1,6 @@
 // The types of the heap: limits, the two kinds of location, values, places, task entries, the table, answers.
 // What they mean is said by the crate machine; nothing here computes.
+#![tactic(auto)]
 
 // The set-up limits: tasks P, longest object S, half size H, rate k.
 #[derive(Clone, Copy)]

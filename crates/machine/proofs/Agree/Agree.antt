@@ -2,7 +2,7 @@
 use Rattle.std.specs.Prelude.{ℕ, zero, suc, ◌+◌, ◌-◌, ◌≤◌, ◌<◌, ◌≡◌, ◌≢◌, ◌⊎◌, List, [], map, Bool, true, length, get_or}
 use Rattle.table.specs.declared.Table.{Table}
 use Rattle.table.specs.declared.Life.TheVariants.{Living}
-use Rattle.machine.specs.Words.{descriptor, bottom_of, end_of}
+use Rattle.machine.specs.Words.{descriptor, bottom_of}
 use Rattle.machine.specs.Entries.{task_at}
 use Rattle.machine.specs.Bounds.{Sized}
 use Rattle.machine.specs.Tasks.{holding_of}

@@ -5,7 +5,6 @@ use Rattle.std.proofs.Math.Decide.{ℕ_discrete}
 use Rattle.table.specs.declared.Table.{Table}
 use Rattle.machine.proofs.Objects.State.{Hd, Shape, State, IsPlaced}
 use Rattle.machine.proofs.Objects.Inv.{Sound}
-use Rattle.machine.specs.Agree.Agree.{end}
 use Rattle.machine.proofs.Agree.Agree.{Held, Beside, Lay, Agree}
 use Rattle.machine.proofs.Agree.MidwayRead.{space_low}
 

@@ -10,7 +10,7 @@ use Rattle.machine.specs.Gate.{sizes_ok}
 use Rattle.machine.specs.Setup.{setup_of}
 use Rattle.machine.specs.Call.{Call}
 use Rattle.machine.specs.Calls.{then, run}
-use Rattle.machine.specs.StillStore.{Store, empty_store, load_answer, same_answer}
+use Rattle.machine.specs.StillStore.{empty_store, load_answer, same_answer}
 use Rattle.machine.specs.Kinds.{beside}
 use Rattle.machine.specs.History.{no_history, history_of}
 use Rattle.machine.proofs.Beside.Good.{Good}

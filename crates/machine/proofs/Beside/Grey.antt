@@ -11,7 +11,7 @@ use Rattle.table.specs.declared.Holding.TheVariants.{Rests, Asks, Free, Job, Cla
 use Rattle.table.specs.declared.Sought.TheVariants.{Claiming, Asking, Busy}
 use Rattle.machine.specs.History.{History}
 use Rattle.machine.specs.Basics.{pick}
-use Rattle.machine.specs.Tasks.{holding_of, idle_of, asks_of, works_of, sought_of, seek_of, some, grey_of, closing_of, held_of}
+use Rattle.machine.specs.Tasks.{holding_of, idle_of, works_of, sought_of, seek_of, some, grey_of, closing_of, held_of}
 use Rattle.machine.specs.Begin.{held_at}
 use Rattle.machine.specs.StillStore.{Store}
 use Rattle.machine.proofs.Objects.Base.{off_on}
@@ -22,7 +22,7 @@ use Rattle.machine.proofs.Agree.Lowest.{found_at}
 use Rattle.machine.proofs.Agree.Search.{found_is, none, sum_pos, sought_at, not_grey}
 use Rattle.machine.proofs.Beside.Good.{Good}
 use Rattle.machine.specs.Beside.WaitsFor.{holds}
-use Rattle.machine.specs.Beside.Grey.{NothingGrey, FlipAsked, Closing, IsHeld}
+use Rattle.machine.specs.Beside.Grey.{NothingGrey, Closing, IsHeld}
 
 -- ---- what is held, by job and claim
 works_none : (pa : ℕ → ℕ) (h : Holding) → jobs_in h ≡ 0 → ((x : ℕ) → ClaimIn h x → ⊥) → works_of (at_holding pa h) ≡ false

@@ -12,11 +12,9 @@ use Rattle.machine.specs.Switch.{new_entry}
 use Rattle.machine.specs.Flip.{unasked_entry}
 use Rattle.machine.specs.Call.{Call}
 use Rattle.machine.specs.Calls.{then, run}
-use Rattle.machine.specs.StillStore.{Kind, task_of}
-use Rattle.machine.specs.Kinds.{made}
+use Rattle.machine.specs.StillStore.{task_of}
 use Rattle.machine.proofs.Beside.Waits.{unasked_waits}
 pub use Rattle.machine.specs.Beside.Waits.{waits, writes}
-use Rattle.machine.specs.Beside.Changes.{if_accepted}
 use Rattle.machine.proofs.Beside.Changes.{Answered, stayed, entered, move_entries, clear_entries, put_entries, get_entries, same_entries, load_entries, report_entries, new_entries, fill_entries, fill_pointer_entries, store_entries, store_pointer_entries}
 use Rattle.machine.proofs.Beside.StepChanges.{Stepped, stands, goes, flips, switches, Settled}
 use Rattle.machine.proofs.Beside.Fair.{step_entries}

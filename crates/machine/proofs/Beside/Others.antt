@@ -1,5 +1,5 @@
 -- Nobody in between: what a call makes of the entries of tasks that it does not name, and of those tasks in the store.
-use Rattle.std.specs.Prelude.{ℕ, zero, suc, ◌≡◌, refl, ◌≢◌, ◌⊎◌, List, [], ◌∷◌, true, false, length, get_or, set}
+use Rattle.std.specs.Prelude.{ℕ, zero, suc, ◌≡◌, refl, ◌≢◌, ◌⊎◌, List, [], ◌∷◌, length, get_or, set}
 use Rattle.std.proofs.Common.{ap, ◌∙◌, inl, inr, length-set, get_or-set_other}
 use Rattle.table.specs.declared.Place.{Place}
 use Rattle.table.specs.declared.Task.{Task}

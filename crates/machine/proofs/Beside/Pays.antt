@@ -25,7 +25,7 @@ use Rattle.machine.specs.StillStore.{Store, happen_all}
 use Rattle.machine.proofs.Objects.Base.{upd}
 use Rattle.machine.proofs.Objects.State.{count, locked, jobs_in, Late}
 use Rattle.machine.proofs.Objects.Inv.{Colours}
-use Rattle.machine.proofs.Objects.Ops.{goes, moves, heads, copies}
+use Rattle.machine.proofs.Objects.Ops.{goes, moves, heads}
 use Rattle.machine.proofs.Objects.MoveLaws.{at_place_lem}
 use Rattle.machine.proofs.Objects.PaySteps.{takes}
 use Rattle.machine.proofs.Objects.Ends.{take_ends}

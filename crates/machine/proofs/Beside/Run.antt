@@ -1,5 +1,5 @@
 -- Calls in a row: as long as the heap is not exhausted, table and store stand side by side.
-use Rattle.std.specs.Prelude.{ℕ, ◌<◌, ◌≡◌, refl, ◌≢◌, ◌⊎◌, List, [], ◌∷◌, Bool}
+use Rattle.std.specs.Prelude.{ℕ, ◌<◌, ◌≡◌, refl, ◌⊎◌, List, [], ◌∷◌, Bool}
 use Rattle.std.proofs.Common.{ap, inl, ltb-true}
 use Rattle.std.proofs.Math.Logic.{inr}
 use Rattle.std.proofs.Math.Bool.{true, false}

@@ -25,7 +25,7 @@ use Rattle.table.specs.declared.Answer.TheVariants.{Done, Moved, No}
 use Rattle.machine.specs.Basics.{pick, all_of, first_of}
 use Rattle.machine.specs.Numbers.{refusal, effect_of}
 use Rattle.machine.specs.Words.{end_of, room_for}
-use Rattle.machine.specs.Entries.{task_at, with_task, with_place, moved_table, out, refused, ends}
+use Rattle.machine.specs.Entries.{task_at, with_task, with_place, moved_table, refused, ends}
 use Rattle.machine.specs.Entries.{Ends as Ended}
 use Rattle.machine.specs.Tasks.{seek_of, grey_of, all_idle}
 use Rattle.machine.specs.Begin.{new_ok}

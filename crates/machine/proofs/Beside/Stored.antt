@@ -1,5 +1,5 @@
 -- The moment of a Store in the runs from set-up: its slot as before until its one writing step, and after that step the value stored.
-use Rattle.std.specs.Prelude.{ℕ, ◌+◌, ◌<◌, ◌≡◌, ◌≢◌, List, [], ◌∷◌, ◌++◌, Bool, true, false, length, get_or, ltb}
+use Rattle.std.specs.Prelude.{ℕ, ◌+◌, ◌<◌, ◌≡◌, ◌≢◌, List, [], ◌∷◌, ◌++◌, Bool, true, false, length, ltb}
 use Rattle.std.proofs.Math.Path.{refl}
 use Rattle.std.proofs.Common.{sym, ◌∙◌, inl, inr, arith, get_or-set_same, ltb-true, eq-eqb}
 use Rattle.table.specs.declared.Limits.{Limits}
@@ -17,7 +17,7 @@ use Rattle.machine.specs.Setup.{setup_of}
 use Rattle.machine.specs.Begin.{begin_store_of, begin_store_pointer_of}
 use Rattle.machine.specs.Call.{Call}
 use Rattle.machine.specs.Calls.{then, run}
-use Rattle.machine.specs.StillStore.{Store, empty_store, resting, storing, owner, owner_at, thing_at, held, doing, happen_all}
+use Rattle.machine.specs.StillStore.{Store, empty_store, resting, storing, owner, owner_at, held, doing, happen_all}
 use Rattle.machine.specs.Kinds.{follows, beside}
 use Rattle.machine.specs.History.{History, no_history, history_after, history_of}
 use Rattle.machine.proofs.Objects.Base.{clash}

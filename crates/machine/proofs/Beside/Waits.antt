@@ -1,14 +1,11 @@
 -- What is counted of a Store: that it waits to be written, and that it is written.
-use Rattle.std.specs.Prelude.{ℕ, suc, ◌≡◌, refl, List, [], ◌∷◌}
-use Rattle.table.specs.declared.Then.{Then}
-use Rattle.table.specs.declared.Then.TheVariants.{ToWrite, ToStoreCopy, ToFillCopy, ToPut}
+use Rattle.std.specs.Prelude.{◌≡◌, refl}
 use Rattle.table.specs.declared.Place.{Place}
 use Rattle.table.specs.declared.Place.TheVariants.{Idle, New, Asked, FillWrite, FillCopy, StoreWrite, Meet, StoreCopy, Take, Read, Put, Release, Looking, Placing}
 use Rattle.machine.specs.Numbers.{Effect, harmless, endsNew, spends, breaks}
 use Rattle.machine.specs.Flip.{unasked}
-use Rattle.machine.specs.StillStore.{Kind, Made, Filled, Written, Ended}
 use Rattle.machine.specs.Kinds.{refused_kinds}
-use Rattle.machine.specs.Beside.Waits.{waits_then, waits, writes}
+use Rattle.machine.specs.Beside.Waits.{waits, writes}
 
 -- a refusal writes nothing
 pub refused_writes : (x : Effect) → writes (refused_kinds x) ≡ 0

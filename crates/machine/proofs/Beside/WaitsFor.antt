@@ -1,13 +1,12 @@
 -- Whom a step waits for, and why: the claimer of what it looks at, the holder of its Store's own slot, a task with a job or a
 -- claim while the stack is empty, a task that keeps a flip from being made for want of room.
-use Rattle.std.specs.Prelude.{ℕ, ◌+◌, ◌-◌, ◌≤◌, ◌<◌, ◌≢◌, ◌⊎◌, List, Bool, get_or, take, ltb, leb, eqb}
+use Rattle.std.specs.Prelude.{ℕ, ◌+◌, ◌-◌, ◌<◌, ◌≢◌, List, Bool, take, ltb, leb, eqb}
 use Rattle.std.proofs.Math.Path.{◌≡◌, refl, ap}
 use Rattle.std.proofs.Common.{◌∙◌, leb-false, ltb-false}
 use Rattle.std.proofs.Math.Logic.{inl, inr}
 use Rattle.std.proofs.Math.Bool.{true, false}
 use Rattle.std.proofs.lemmas.Bool.{eqb-false}
 use Rattle.table.specs.declared.Primary.{Primary}
-use Rattle.table.specs.declared.Replica.{Replica}
 use Rattle.table.specs.declared.Marks.{Marks}
 use Rattle.table.specs.declared.Operand.{Operand}
 use Rattle.table.specs.declared.Pending.{Pending}
@@ -16,15 +15,12 @@ use Rattle.table.specs.declared.Storing.TheVariants.{Nowhere, Slot}
 use Rattle.table.specs.declared.Place.{Place}
 use Rattle.table.specs.declared.Place.TheVariants.{Idle, New, Asked, FillWrite, FillCopy, StoreWrite, Meet, StoreCopy, Take, Read, Put, Release, Looking, Placing}
 use Rattle.table.specs.declared.Table.{Table}
-use Rattle.table.specs.declared.Look.TheVariants.{Claimed, Forwarded}
-use Rattle.table.specs.declared.Copying.TheVariants.{Locked}
 use Rattle.table.specs.declared.Pass.{Pass}
 use Rattle.table.specs.declared.Pass.TheVariants.{On, Stopped}
 use Rattle.table.specs.declared.Sought.{Sought}
 use Rattle.table.specs.declared.Sought.TheVariants.{Worker, Blocker}
 use Rattle.table.specs.declared.Found.{Found}
 use Rattle.table.specs.declared.Found.TheVariants.{At, Nobody}
-use Rattle.table.specs.declared.Holding.{Holding}
 use Rattle.table.specs.declared.Deed.{Deed}
 use Rattle.table.specs.declared.Deed.TheVariants.{Goes, GoesWith, Ends, EndsWith, Waits, Fails}
 use Rattle.table.specs.declared.Gate.{Gate}
@@ -35,11 +31,11 @@ use Rattle.table.specs.declared.Answer.TheVariants.{Done, Moved, Wait, No}
 use Rattle.table.specs.declared.Outcome.{Outcome}
 use Rattle.machine.specs.Basics.{pick, all_of}
 use Rattle.machine.specs.Numbers.{refusal}
-use Rattle.machine.specs.Words.{look_of, copying_of, end_of, room_for}
+use Rattle.machine.specs.Words.{end_of, room_for}
 use Rattle.machine.specs.Entries.{task_at, pending_ok, refused, ends}
 use Rattle.machine.specs.Entries.{Ends as Ended}
 use Rattle.machine.specs.Gate.{call_gate}
-use Rattle.machine.specs.Tasks.{holding_of, claim_is, job_is, works_of, blocks_of, sought_of, seek_of, grey_of}
+use Rattle.machine.specs.Tasks.{sought_of, seek_of, grey_of}
 use Rattle.machine.specs.Complete.{idle_at}
 use Rattle.machine.specs.Begin.{new_ok}
 use Rattle.machine.specs.Store.{meet_of}
@@ -51,7 +47,7 @@ use Rattle.machine.proofs.Objects.Base.{clash, off_on}
 use Rattle.machine.proofs.Agree.Search.{found_is}
 use Rattle.machine.proofs.Beside.Changes.{pick_all}
 use Rattle.machine.proofs.Beside.Seeks.{Seeks, NoTask, LookSeeks, look_seeks, MeetSeeks, meet_seeks, place_seeks, fill_write_seeks, fill_copy_seeks, store_write_seeks, store_copy_seeks, take_seeks, read_seeks, put_seeks, release_seeks}
-use Rattle.machine.specs.Beside.WaitsFor.{holds, ClaimedBy, LockedBy, MetBy, KeptBy, WaitsFor}
+use Rattle.machine.specs.Beside.WaitsFor.{holds, ClaimedBy, MetBy, KeptBy, WaitsFor}
 
 module _ (t : Table) (i q : ℕ) (G : Type 0) where
   abbrev Gives : Ended → Type 0

@@ -1,7 +1,5 @@
 -- Refusal 7: a New, Fill or Store that is begun is not held, and one that is refused with 7 is: a flip is asked, or the heap is closing.
-use Rattle.table.specs.declared.Place.TheVariants.{New}
 use Rattle.machine.specs.Call.{Call}
-use Rattle.machine.specs.StillStore.{Store}
 
 -- the calls that begin an instruction
 abbrev pub Begins : Call → Type 0

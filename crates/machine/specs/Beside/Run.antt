@@ -2,11 +2,10 @@
 use Rattle.std.specs.Prelude.{ℕ, ◌≢◌, List, [], ◌∷◌}
 use Rattle.table.specs.declared.Table.{Table}
 use Rattle.table.specs.declared.Refusal.TheVariants.{Exhausted}
-use Rattle.table.specs.declared.Answer.TheVariants.{Report, No}
+use Rattle.table.specs.declared.Answer.TheVariants.{No}
 use Rattle.machine.specs.Entries.{task_at, Ends}
 use Rattle.machine.specs.Call.{Call}
 use Rattle.machine.specs.Calls.{then}
-use Rattle.machine.specs.StillStore.{Store}
 use Rattle.machine.specs.Beside.Room.{WantsRoom}
 
 -- why a call may answer 10: a step of a task whose place wants more room than there is

@@ -1,4 +1,4 @@
--- Table and words hold what the objects say.
+-- The word after the space in use.
 use Rattle.std.specs.Prelude.{ℕ}
 use Rattle.table.specs.declared.Table.{Table}
 use Rattle.machine.specs.Words.{end_of}

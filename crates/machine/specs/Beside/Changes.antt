@@ -1,4 +1,4 @@
--- What a call that is no step makes of the task entries, and of its own task's Store.
+-- What a call that begins a Store is told: that it was accepted.
 use Rattle.std.specs.Prelude.{ℕ}
 use Rattle.table.specs.declared.Answer.{Answer}
 use Rattle.table.specs.declared.Answer.TheVariants.{Accepted, Done, Value, Moved, Wait, Report, No}

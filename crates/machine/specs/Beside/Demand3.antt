@@ -1,4 +1,4 @@
--- Demand 3, from the runs in which table, store and history stand side by side.
+-- Calls that find the collector on, and calls that are not refused for want of room: what demand 3 is said with.
 use Rattle.std.specs.Prelude.{◌≡◌, List, [], ◌∷◌, true}
 use Rattle.machine.specs.Entries.{Ends}
 use Rattle.machine.specs.Call.{Call}

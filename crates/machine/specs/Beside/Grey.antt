@@ -1,4 +1,4 @@
--- What grey and held mean, of a table that stands for objects.
+-- What grey, closing and held mean, said of a table.
 use Rattle.std.specs.Prelude.{ℕ, ◌<◌, ◌≡◌, Bool}
 use Rattle.std.proofs.Math.Bool.{true, false}
 use Rattle.table.specs.declared.Table.{Table}

@@ -1,4 +1,4 @@
--- Refusal 7: a New, Fill or Store that is begun is not held, and one that is refused with 7 is: a flip is asked, or the heap is closing.
+-- The calls that begin a New, a Fill or a Store.
 use Rattle.machine.specs.Call.{Call}
 
 -- the calls that begin an instruction

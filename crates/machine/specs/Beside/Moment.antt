@@ -1,4 +1,4 @@
--- The moment of a Store: each that was begun is written exactly once, and none that was not begun; in every run, from any table.
+-- How often a run begins a Store of a task, and how often it writes one.
 use Rattle.std.specs.Prelude.{ℕ, ◌+◌, List, [], ◌∷◌, eqb}
 use Rattle.table.specs.declared.Answer.{Answer}
 use Rattle.machine.specs.Basics.{pick}

@@ -1,4 +1,4 @@
--- Each register of the table names the object that the store's register holds; a call of one task leaves what the registers of the others name.
+-- The registers of a table are the addresses of the objects that the registers of a store hold.
 use Rattle.std.specs.Prelude.{ℕ, ◌<◌, ◌≡◌}
 use Rattle.table.specs.declared.Table.{Table}
 use Rattle.machine.specs.Entries.{task_at, register}

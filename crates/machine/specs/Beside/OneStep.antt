@@ -1,4 +1,4 @@
--- From the counts of a Store to its one step: a Store that was begun and no longer waits was written in one step of its task.
+-- A run that writes a Store in one step of its task: what came before, the step, what came after.
 use Rattle.std.specs.Prelude.{ℕ, ◌≡◌, List, ◌∷◌, ◌++◌}
 use Rattle.machine.specs.Entries.{Ends}
 use Rattle.machine.specs.Call.{Call}

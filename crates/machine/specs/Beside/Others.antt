@@ -1,4 +1,4 @@
--- Nobody in between: what a call makes of the entries of tasks that it does not name, and of those tasks in the store.
+-- What a call leaves of the entry of a task that it does not name.
 use Rattle.std.specs.Prelude.{ℕ, ◌≡◌, ◌⊎◌, true, false}
 use Rattle.table.specs.declared.Table.{Table}
 use Rattle.machine.specs.Entries.{task_at, Ends}

@@ -1,4 +1,4 @@
--- The reasons for what a step answers: a payment ends early only if nothing is grey; 9 and a flip come only for want of room.
+-- Too little room for a New, while collecting and while not.
 use Rattle.std.specs.Prelude.{ℕ, ◌+◌, ◌-◌, ◌*◌, ◌<◌}
 use Rattle.table.specs.declared.Table.{Table}
 use Rattle.machine.specs.Agree.Agree.{end}

@@ -1,4 +1,4 @@
--- The reason for a refusal 10: a place, or a flip, without room.
+-- A place, or a flip, that needs more room than there is.
 use Rattle.std.specs.Prelude.{ℕ, ◌+◌, ◌<◌, ◌≡◌, List, true, false, eqb}
 use Rattle.table.specs.declared.Place.{Place}
 use Rattle.table.specs.declared.Place.TheVariants.{Idle, New, Asked, FillWrite, FillCopy, StoreWrite, Meet, StoreCopy, Take, Read, Put, Release, Looking, Placing}

@@ -1,4 +1,4 @@
--- With enough room no call answers 9 or 10: one call, in a state of a collection or just before its flip.
+-- A call that is refused with neither 9 nor 10.
 use Rattle.std.specs.Prelude.{◌≢◌}
 use Rattle.table.specs.declared.Refusal.TheVariants.{NoRoom, Exhausted}
 use Rattle.table.specs.declared.Answer.TheVariants.{No}

@@ -1,4 +1,4 @@
--- Calls in a row: as long as the heap is not exhausted, table and store stand side by side.
+-- Runs in which no call answers 10, and the calls that answer it.
 use Rattle.std.specs.Prelude.{ℕ, ◌≢◌, List, [], ◌∷◌}
 use Rattle.table.specs.declared.Table.{Table}
 use Rattle.table.specs.declared.Refusal.TheVariants.{Exhausted}

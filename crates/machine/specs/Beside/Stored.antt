@@ -1,4 +1,4 @@
--- The moment of a Store in the runs from set-up: its slot as before until its one writing step, and after that step the value stored.
+-- A Store in a run: its slot as before until its one writing step, and after that step the value stored.
 use Rattle.std.specs.Prelude.{ℕ, ◌≡◌, List, [], ◌∷◌, ◌++◌, get_or}
 use Rattle.machine.specs.Entries.{Ends}
 use Rattle.machine.specs.Call.{Call}

@@ -1,4 +1,4 @@
--- Functions changed at one number, lists without a number twice, and sums: what the theory of the heap leans on.
+-- A number stands in a list.
 use Rattle.std.specs.Prelude.{◌≡◌, ◌⊎◌, List, [], ◌∷◌, ℕ}
 
 -- ---- membership, and lists with no number twice

@@ -1,12 +1,11 @@
 // Blocks of input and output: reading the next, finding a line's end, making room for an answer.
-ghost use Rattle.std.specs.Prelude.{◌+◌, ◌≤◌, ◌<◌, length};
+#![tactic(auto)]
 
-// Where the next answer goes, and whether the output could be written.
-#[derive(Drop)]
-pub struct Room {
-    pub good: bool,
-    pub at: usize,
-}
+ghost use Rattle.std.specs.Prelude.{◌≡◌, ◌+◌, ◌≤◌, ◌<◌, length, take, IfOk, OnOk};
+ghost use Rattle.std.specs.Io.KnownBytes.{Appends};
+
+use std::io;
+use std::io::{Read, Write};
 
 // How many bytes of the input's buffer are lines to answer, and whether the input has ended.
 #[derive(Drop)]
@@ -30,26 +29,25 @@ pub fn line_end(buf: &[u8], from: usize, n: usize) -> usize
     i
 }
 
-// Writes what is in use, and answers whether it could be written.
-pub fn flush(out: &[u8], used: usize) -> bool
+// Writes what is in use. After an error nobody knows how much of it was written.
+pub fn flush<W: Write>(output: &mut W, out: &[u8], used: usize) -> io::Result<()>
     requires { used ≤ length out.now }
+    ensures { OnOk result (Appends (W.contents output.old) (W.contents output.new) (take used out.now)) }
 {
-    io::write_all(1, &out[..used])
+    output.write_all(&out[..used])
 }
 
-// Room for an answer: writes what is there if there is none left.
-pub fn room_in(out: &[u8], used: usize) -> Room
+// Room for an answer, where it begins: writes what is there if there is none left. After an error nobody knows how
+// much of it was written.
+pub fn room_in<W: Write>(output: &mut W, out: &[u8], used: usize) -> io::Result<usize>
     requires { (used ≤ length out.now) × (64 ≤ length out.now) }
-    ensures { result.at + 40 ≤ length out.now }
+    ensures { IfOk result (λ at. at + 40 ≤ length out.now) }
 {
     if out.len() - used < 64 {
-        let good = flush(out, used);
-        return Room { good: good, at: 0 };
+        flush(output, out, used)?;
+        return Ok(0);
     }
-    Room {
-        good: true,
-        at: used,
-    }
+    Ok(used)
 }
 
 // Moves the bytes from `from` up to n to the front, and answers how many they are.
@@ -67,26 +65,33 @@ pub fn to_front(buf: &mut [u8], from: usize, n: usize) -> usize
     i
 }
 
-// Reads the next block behind the unfinished line. Where the input has ended, a last line without its line end gets one.
-pub fn next_block(buf: &mut [u8], have: usize, skip: bool) -> Block
+// Reads the next block behind the unfinished line. Where the input has ended, a last line without its line end gets
+// one. The unfinished line stays as it was, also where the input cannot be read.
+pub fn next_block<R: Read>(
+    input: &mut R,
+    buf: &mut [u8],
+    have: usize,
+    skip: bool,
+) -> io::Result<Block>
     requires { have < length buf.old }
-    ensures { result.n ≤ length buf.old }
+    ensures within { IfOk result (λ block. block.n ≤ length buf.old) }
+    ensures kept { take have buf.new ≡ take have buf.old }
 {
-    let got = libc::read(0, &mut buf[have..]);
-    if got <= 0 {
-        if have == 0 {
-            if !skip {
-                return Block { last: true, n: 0 };
-            }
+    let got = input.read(&mut buf[have..])?;
+    if got == 0 {
+        if have == 0 && !skip {
+            return Ok(Block { last: true, n: 0 });
         }
         buf[have] = 10;
-        return Block {
+        return Ok(Block {
             last: true,
             n: have + 1,
-        };
+        });
     }
-    let n = have + io::count(got, &buf[have..]);
-    Block { last: false, n: n }
+    Ok(Block {
+        last: false,
+        n: have + got,
+    })
 }
 
 // How many words a heap of half size H has; none for an H that no heap has.

@@ -1,8 +1,8 @@
 // Blocks of input and output: reading the next, finding a line's end, making room for an answer.
 #![tactic(auto)]
 
-ghost use Rattle.std.specs.Prelude.{◌≡◌, ◌+◌, ◌≤◌, ◌<◌, length, take, IfOk, OnOk};
-ghost use Rattle.std.specs.Io.KnownBytes.{Appends};
+ghost use Rattle.std.specs.Prelude.{◌≡◌, ◌≢◌, ℕ, ◌+◌, ◌-◌, ◌*◌, ◌≤◌, ◌<◌, true, false, length, take, drop, slice_index, Ok, IfOk, OnOk, OnErr};
+ghost use Rattle.std.specs.Io.KnownBytes.{Appends, Consumes, Keeps, IsAtEnd};
 
 use std::io;
 use std::io::{Read, Write};
@@ -17,7 +17,9 @@ pub struct Block {
 // The first line end at or past `from`, or n where there is none.
 pub fn line_end(buf: &[u8], from: usize, n: usize) -> usize
     requires { (from ≤ n) × (n ≤ length buf.now) }
-    ensures { (from ≤ result) × (result ≤ n) }
+    ensures within { (from ≤ result) × (result ≤ n) }
+    ensures before { (k : ℕ) → from ≤ k → k < result → slice_index buf.now k ≢ 10 }
+    ensures found { result < n → slice_index buf.now result ≡ 10 }
 {
     let mut i = from;
     while i < n {
@@ -41,7 +43,9 @@ pub fn flush<W: Write>(output: &mut W, out: &[u8], used: usize) -> io::Result<()
 // much of it was written.
 pub fn room_in<W: Write>(output: &mut W, out: &[u8], used: usize) -> io::Result<usize>
     requires { (used ≤ length out.now) × (64 ≤ length out.now) }
-    ensures { IfOk result (λ at. at + 40 ≤ length out.now) }
+    ensures room { IfOk result (λ at. at + 40 ≤ length out.now) }
+    ensures full { length out.now < used + 64 → IfOk result (λ at. (at ≡ 0) × Appends (W.contents output.old) (W.contents output.new) (take used out.now)) }
+    ensures free { used + 64 ≤ length out.now → (result ≡ Ok used) × (output.new ≡ output.old) }
 {
     if out.len() - used < 64 {
         flush(output, out, used)?;
@@ -53,7 +57,8 @@ pub fn room_in<W: Write>(output: &mut W, out: &[u8], used: usize) -> io::Result<
 // Moves the bytes from `from` up to n to the front, and answers how many they are.
 pub fn to_front(buf: &mut [u8], from: usize, n: usize) -> usize
     requires { (from ≤ n) × (n ≤ length buf.old) }
-    ensures { result + from ≤ n }
+    ensures count { result + from ≡ n }
+    ensures moved { (k : ℕ) → k < result → slice_index buf.new k ≡ slice_index buf.old (k + from) }
 {
     let mut i: usize = 0;
     let mut j = from;
@@ -76,6 +81,12 @@ pub fn next_block<R: Read>(
     requires { have < length buf.old }
     ensures within { IfOk result (λ block. block.n ≤ length buf.old) }
     ensures kept { take have buf.new ≡ take have buf.old }
+    ensures more { IfOk result (λ block. block.last ≡ false → (have < block.n) × Consumes (R.remaining input.old) (R.remaining input.new) (take (block.n - have) (drop have buf.new))) }
+    ensures ended { IfOk result (λ block. block.last ≡ true → IsAtEnd (R.remaining input.new)) }
+    ensures closed { IfOk result (λ block. block.last ≡ true → 0 < block.n → (block.n ≡ have + 1) × (slice_index buf.new have ≡ 10)) }
+    ensures answered { IfOk result (λ block. block.n ≡ 0 → (have ≡ 0) × (skip ≡ false)) }
+    ensures quiet { IfOk result (λ block. block.last ≡ true → have ≡ 0 → skip ≡ false → block.n ≡ 0) }
+    ensures unread { OnErr result (Keeps (R.remaining input.old) (R.remaining input.new)) }
 {
     let got = input.read(&mut buf[have..])?;
     if got == 0 {
@@ -96,7 +107,9 @@ pub fn next_block<R: Read>(
 
 // How many words a heap of half size H has; none for an H that no heap has.
 pub fn size_of(h: u32) -> usize
-    ensures { result ≤ 16382 }
+    ensures most { result ≤ 16382 }
+    ensures heap { h ≤ 8190 → result ≡ 2 + 2 * h }
+    ensures none { 8190 < h → result ≡ 0 }
 {
     if 8190 < h {
         return 0;

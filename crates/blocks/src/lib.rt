@@ -1,12 +1,11 @@
 // Blocks of input and output: reading the next, finding a line's end, making room for an answer.
-ghost use Rattle.std.specs.Prelude.{◌+◌, ◌≤◌, ◌<◌, length};
+#![tactic(auto)]
 
-// Where the next answer goes, and whether the output could be written.
-#[derive(Drop)]
-pub struct Room {
-    pub good: bool,
-    pub at: usize,
-}
+ghost use Rattle.std.specs.Prelude.{◌≡◌, ◌≢◌, ℕ, ◌+◌, ◌-◌, ◌*◌, ◌≤◌, ◌<◌, true, false, length, take, drop, slice_index, Ok, IfOk, OnOk, OnErr};
+ghost use Rattle.std.specs.Io.KnownBytes.{Appends, Consumes, Keeps, IsAtEnd};
+
+use std::io;
+use std::io::{Read, Write};
 
 // How many bytes of the input's buffer are lines to answer, and whether the input has ended.
 #[derive(Drop)]
@@ -18,7 +17,9 @@ pub struct Block {
 // The first line end at or past `from`, or n where there is none.
 pub fn line_end(buf: &[u8], from: usize, n: usize) -> usize
     requires { (from ≤ n) × (n ≤ length buf.now) }
-    ensures { (from ≤ result) × (result ≤ n) }
+    ensures within { (from ≤ result) × (result ≤ n) }
+    ensures before { (k : ℕ) → from ≤ k → k < result → slice_index buf.now k ≢ 10 }
+    ensures found { result < n → slice_index buf.now result ≡ 10 }
 {
     let mut i = from;
     while i < n {
@@ -30,32 +31,34 @@ pub fn line_end(buf: &[u8], from: usize, n: usize) -> usize
     i
 }
 
-// Writes what is in use, and answers whether it could be written.
-pub fn flush(out: &[u8], used: usize) -> bool
+// Writes what is in use. After an error nobody knows how much of it was written.
+pub fn flush<W: Write>(output: &mut W, out: &[u8], used: usize) -> io::Result<()>
     requires { used ≤ length out.now }
+    ensures { OnOk result (Appends (W.contents output.old) (W.contents output.new) (take used out.now)) }
 {
-    io::write_all(1, &out[..used])
+    output.write_all(&out[..used])
 }
 
-// Room for an answer: writes what is there if there is none left.
-pub fn room_in(out: &[u8], used: usize) -> Room
+// Room for an answer, where it begins: writes what is there if there is none left. After an error nobody knows how
+// much of it was written.
+pub fn room_in<W: Write>(output: &mut W, out: &[u8], used: usize) -> io::Result<usize>
     requires { (used ≤ length out.now) × (64 ≤ length out.now) }
-    ensures { result.at + 40 ≤ length out.now }
+    ensures room { IfOk result (λ at. at + 40 ≤ length out.now) }
+    ensures full { length out.now < used + 64 → IfOk result (λ at. (at ≡ 0) × Appends (W.contents output.old) (W.contents output.new) (take used out.now)) }
+    ensures free { used + 64 ≤ length out.now → (result ≡ Ok used) × (output.new ≡ output.old) }
 {
     if out.len() - used < 64 {
-        let good = flush(out, used);
-        return Room { good: good, at: 0 };
+        flush(output, out, used)?;
+        return Ok(0);
     }
-    Room {
-        good: true,
-        at: used,
-    }
+    Ok(used)
 }
 
 // Moves the bytes from `from` up to n to the front, and answers how many they are.
 pub fn to_front(buf: &mut [u8], from: usize, n: usize) -> usize
     requires { (from ≤ n) × (n ≤ length buf.old) }
-    ensures { result + from ≤ n }
+    ensures count { result + from ≡ n }
+    ensures moved { (k : ℕ) → k < result → slice_index buf.new k ≡ slice_index buf.old (k + from) }
 {
     let mut i: usize = 0;
     let mut j = from;
@@ -67,31 +70,46 @@ pub fn to_front(buf: &mut [u8], from: usize, n: usize) -> usize
     i
 }
 
-// Reads the next block behind the unfinished line. Where the input has ended, a last line without its line end gets one.
-pub fn next_block(buf: &mut [u8], have: usize, skip: bool) -> Block
+// Reads the next block behind the unfinished line. Where the input has ended, a last line without its line end gets
+// one. The unfinished line stays as it was, also where the input cannot be read.
+pub fn next_block<R: Read>(
+    input: &mut R,
+    buf: &mut [u8],
+    have: usize,
+    skip: bool,
+) -> io::Result<Block>
     requires { have < length buf.old }
-    ensures { result.n ≤ length buf.old }
+    ensures within { IfOk result (λ block. block.n ≤ length buf.old) }
+    ensures kept { take have buf.new ≡ take have buf.old }
+    ensures more { IfOk result (λ block. block.last ≡ false → (have < block.n) × Consumes (R.remaining input.old) (R.remaining input.new) (take (block.n - have) (drop have buf.new))) }
+    ensures ended { IfOk result (λ block. block.last ≡ true → IsAtEnd (R.remaining input.new)) }
+    ensures closed { IfOk result (λ block. block.last ≡ true → 0 < block.n → (block.n ≡ have + 1) × (slice_index buf.new have ≡ 10)) }
+    ensures answered { IfOk result (λ block. block.n ≡ 0 → (have ≡ 0) × (skip ≡ false)) }
+    ensures quiet { IfOk result (λ block. block.last ≡ true → have ≡ 0 → skip ≡ false → block.n ≡ 0) }
+    ensures unread { OnErr result (Keeps (R.remaining input.old) (R.remaining input.new)) }
 {
-    let got = libc::read(0, &mut buf[have..]);
-    if got <= 0 {
-        if have == 0 {
-            if !skip {
-                return Block { last: true, n: 0 };
-            }
+    let got = input.read(&mut buf[have..])?;
+    if got == 0 {
+        if have == 0 && !skip {
+            return Ok(Block { last: true, n: 0 });
         }
         buf[have] = 10;
-        return Block {
+        return Ok(Block {
             last: true,
             n: have + 1,
-        };
+        });
     }
-    let n = have + io::count(got, &buf[have..]);
-    Block { last: false, n: n }
+    Ok(Block {
+        last: false,
+        n: have + got,
+    })
 }
 
 // How many words a heap of half size H has; none for an H that no heap has.
 pub fn size_of(h: u32) -> usize
-    ensures { result ≤ 16382 }
+    ensures most { result ≤ 16382 }
+    ensures heap { h ≤ 8190 → result ≡ 2 + 2 * h }
+    ensures none { 8190 < h → result ≡ 0 }
 {
     if 8190 < h {
         return 0;

@@ -1,9 +1,13 @@
-// 01's self-pointing example and its room examples, through the library: the calls stand in calls.rt, and each answer is
+// The self-pointing example and the room examples, through the library: the calls stand in calls.rt, and each answer is
 // written with the state behind it, A, top, J and whether something is grey.
+#![tactic(auto)]
+
 mod calls;
 mod words;
 
 use heap::{Outcome, Table};
+use std::io;
+use std::io::Write;
 
 // One call by its letter, with up to four numbers.
 fn made(t: Table, words: &mut [u32], call: u8, a: u32, b: u32, c: u32, d: u32) -> Outcome {
@@ -26,8 +30,9 @@ fn number(b: u8) -> u32 {
     (b - 48) as u32
 }
 
-// Makes the calls, from a table never set up, and writes each answer and the state behind it.
-pub fn run(words: &mut [u32], calls: &[u8]) {
+// Makes the calls, from a table never set up, and writes each answer and the state behind it, as long as they can be
+// written.
+pub fn run<W: Write>(output: &mut W, words: &mut [u32], calls: &[u8]) -> io::Result<()> {
     let n = calls.len();
     let mut t = heap::unset();
     let mut i: usize = 0;
@@ -40,14 +45,15 @@ pub fn run(words: &mut [u32], calls: &[u8]) {
         let o = made(t, words, calls[i], a, b, c, d);
         let answer = o.answer;
         let u = o.table;
-        words::say(answer);
-        words::state(u);
+        words::say(output, answer)?;
+        words::state(output, u)?;
         t = u;
         i = next;
     }
+    Ok(())
 }
 
-fn main() {
+fn main(rt: HostRuntime) -> io::Result<()> {
     let mut words = [0u32; 130];
-    calls::all_examples(&mut words);
+    calls::all_examples(&mut rt.stdout(), &mut words)
 }

@@ -1,25 +1,22 @@
 // Answers in the script program's words, and the state behind them.
 use heap::{Answer, Table};
+use std::io;
+use std::io::Write;
 
-fn with_number(word: &[u8], n: u64) {
-    io::write_all(1, word);
-    io::print_decimal(1, n);
-}
-
-pub fn say(x: Answer) {
+pub fn say<W: Write>(output: &mut W, x: Answer) -> io::Result<()> {
     let mut line = [0u8; 40];
     let n = answers::write_answer(x, &mut line, 0);
-    blocks::flush(&line, n);
+    blocks::flush(output, &line, n)
 }
 
 // A, top, J, and 1 if the collector is on and something is grey.
-pub fn state(t: Table) {
+pub fn state<W: Write>(output: &mut W, t: Table) -> io::Result<()> {
     let m = t.marks;
-    with_number(b"# ", m.a as u64);
-    with_number(b" ", m.top as u64);
-    with_number(b" ", m.j as u64);
-    with_number(b" ", grey(t));
-    io::write_all(1, b"\n");
+    let a = m.a;
+    let top = m.top;
+    let j = m.j;
+    let g = grey(t);
+    writeln!(output, "# {a} {top} {j} {g}")
 }
 
 fn grey(t: Table) -> u64 {

@@ -1,11 +1,13 @@
 // The lines of a block, each by its call on the heap. The words in use are the first 2+2H of the largest buffer.
 // The frequent calls stand in the loop, and the table goes from a call's outcome straight back into one local: whatever
 // lies between copies the table once more.
-ghost use Rattle.std.specs.Prelude.{◌+◌, ◌≤◌, length};
+ghost use Rattle.std.specs.Prelude.{◌+◌, ◌≤◌, length, IfOk};
 
 use crate::lines::{Lines, State};
 use heap::{Answer, Outcome, Table};
 use script::Said;
+use std::io;
+use std::io::Write;
 
 fn setup(t: Table, words: &mut [u32], p: u32, s: u32, h: u32, k: u32) -> Outcome
     requires { 16382 ≤ length words.old }
@@ -44,10 +46,17 @@ fn said_by(buf: &[u8], from: usize, to: usize, skip: bool) -> Said
     script::read_line(&buf[from..to])
 }
 
-// Answers each whole line of the first n bytes, as long as the output can be written.
-pub fn all_lines(words: &mut [u32], buf: &[u8], n: usize, out: &mut [u8], s: State) -> Lines
+// Answers each whole line of the first n bytes. Where the output cannot be written, no further line is answered.
+pub fn all_lines<W: Write>(
+    output: &mut W,
+    words: &mut [u32],
+    buf: &[u8],
+    n: usize,
+    out: &mut [u8],
+    s: State,
+) -> io::Result<Lines>
     requires { (16382 ≤ length words.old) × (n ≤ length buf.now) × (s.used ≤ length out.old) × (64 ≤ length out.old) }
-    ensures { (result.from ≤ n) × (result.used ≤ length out.old) }
+    ensures { IfOk result (λ lines. (lines.from ≤ n) × (lines.used ≤ length out.old)) }
 {
     let mut from: usize = 0;
     let mut used = s.used;
@@ -56,25 +65,14 @@ pub fn all_lines(words: &mut [u32], buf: &[u8], n: usize, out: &mut [u8], s: Sta
     while from < n {
         let e = blocks::line_end(buf, from, n);
         if n <= e {
-            return Lines {
-                good: true,
+            return Ok(Lines {
                 from: from,
                 used: used,
                 skip: skip,
                 table: t,
-            };
+            });
         }
-        let place = blocks::room_in(out, used);
-        let at = place.at;
-        if !place.good {
-            return Lines {
-                good: false,
-                from: from,
-                used: at,
-                skip: skip,
-                table: t,
-            };
-        }
+        let at = blocks::room_in(output, out, used)?;
         let said = said_by(buf, from, e, skip);
         let l = t.limits;
         let size = blocks::size_of(l.h);
@@ -148,11 +146,10 @@ pub fn all_lines(words: &mut [u32], buf: &[u8], n: usize, out: &mut [u8], s: Sta
         }
         used = answers::write_answer(answer, out, at);
     }
-    Lines {
-        good: true,
+    Ok(Lines {
         from: from,
         used: used,
         skip: skip,
         table: t,
-    }
+    })
 }

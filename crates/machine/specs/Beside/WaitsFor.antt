@@ -1,4 +1,5 @@
 -- Whom a step waits for, and why: the claimer of what it looks at, the holder of its Store's own slot, a task with a job or a
+-- claim while the stack is empty, a task that keeps a flip from being made for want of room.
 use Rattle.std.specs.Prelude.{ℕ, ◌+◌, ◌-◌, ◌≤◌, ◌<◌, ◌≢◌, ◌⊎◌, List, get_or}
 use Rattle.std.proofs.Math.Path.{◌≡◌}
 use Rattle.std.proofs.Math.Bool.{true, false}

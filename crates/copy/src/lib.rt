@@ -4,7 +4,7 @@
 ghost use Rattle.std.specs.Prelude.{◌≡◌, ◌≤◌, length};
 ghost use Rattle.machine.specs.Bounds.{Fits};
 ghost use Rattle.machine.specs.Deeds.{acted};
-ghost use Rattle.machine.specs.Pay.{put_of, paid as paidOf, release_of};
+ghost use Rattle.machine.specs.Pay.{put_of, paid as paid_of, release_of};
 
 use table::{Copied, Deed, Look, Marks, Place, Primary, Refusal};
 
@@ -30,7 +30,7 @@ pub fn put(m: Marks, words: &mut [u32], s: u32, n: u32, x: Primary, i: u32, c: C
 #[tactic(auto, using(machine::proofs::Rules::tests))]
 fn paid(m: Marks, n: u32) -> Deed
     requires { 1 ≤ n }
-    ensures { result ≡ paidOf m n }
+    ensures { result ≡ paid_of m n }
 {
     if n == 1 {
         return Deed::Ends(m);

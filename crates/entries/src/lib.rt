@@ -2,7 +2,7 @@
 #![tactic(auto)]
 
 ghost use Rattle.std.specs.Prelude.{◌≡◌, ◌<◌, length, set};
-ghost use Rattle.machine.specs.Entries.{refused as refusedOf, out, with_life, with_place, moved_table, entry, register as register_of};
+ghost use Rattle.machine.specs.Entries.{refused as refused_of, out, with_life, with_place, moved_table, entry, register as register_of};
 ghost use Rattle.table.specs.declared.Answer.TheVariants.{No};
 
 use table::{Answer, Life, Marks, Outcome, Pending, Place, Primary, Refusal, Table, Task};
@@ -28,7 +28,7 @@ fn unchanged(t: Table, x: Refusal) -> Outcome
 // A refusal: 10 and 11 mark the table dead. (With one arm for the rest the compiler writes it out in every call, and the
 // table is copied a fifth more often.)
 pub fn refused(t: Table, x: Refusal) -> Outcome
-    ensures { result ≡ refusedOf t x }
+    ensures { result ≡ refused_of t x }
 {
     match x {
         Refusal::WrongLimit => unchanged(t, x),

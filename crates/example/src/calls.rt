@@ -35,6 +35,7 @@ const EXAMPLES: [&[u8]; 8] = [
     b"s2lp1 n00j0 .0000 n1010 .1000 f1100 .1000 n1100 .1000 r0000 .1000 r0000 ",
 ];
 
+// An error is the output's own.
 pub fn all_examples<W: Write>(output: &mut W, words: &mut [u32]) -> io::Result<()> {
     for calls in EXAMPLES {
         run(output, words, calls)?;

@@ -3,13 +3,14 @@ use heap::{Answer, Table};
 use std::io;
 use std::io::Write;
 
+// An error is the output's own.
 pub fn say<W: Write>(output: &mut W, x: Answer) -> io::Result<()> {
     let mut line = [0u8; 40];
     let n = answers::write_answer(x, &mut line, 0);
     blocks::flush(output, &line, n)
 }
 
-// A, top, J, and 1 if the collector is on and something is grey.
+// A, top, J, and 1 if the collector is on and something is grey. An error is the output's own.
 pub fn state<W: Write>(output: &mut W, t: Table) -> io::Result<()> {
     let m = t.marks;
     let a = m.a;

@@ -46,7 +46,8 @@ fn said_by(buf: &[u8], from: usize, to: usize, skip: bool) -> Said
     script::read_line(&buf[from..to])
 }
 
-// Answers each whole line of the first n bytes. Where the output cannot be written, no further line is answered.
+// Answers each whole line of the first n bytes. Where the output cannot be written, no further line is answered: the error
+// is the write's own, and the table is gone.
 pub fn all_lines<W: Write>(
     output: &mut W,
     words: &mut [u32],

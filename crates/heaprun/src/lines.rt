@@ -51,6 +51,7 @@ fn block_or_flush<R: Read, W: Write>(
     }
 }
 
+// A block read and answered. An error is that of the read or the write that failed; what was written before it stays.
 fn one_turn<R: Read, W: Write>(
     input: &mut R,
     output: &mut W,
@@ -115,7 +116,7 @@ fn one_turn<R: Read, W: Write>(
     })
 }
 
-// Nothing says that the input ends, so the turns are counted, up to a number that no run reaches.
+// Nothing says that the input ends, so the turns are counted, up to a number that no run reaches. An error is a turn's.
 pub fn all_turns<R: Read, W: Write>(
     input: &mut R,
     output: &mut W,

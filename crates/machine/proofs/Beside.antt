@@ -37,7 +37,6 @@ pub mod SlotsStay
 pub mod Busy
 pub mod Waiting
 pub mod Flips
-pub mod Room
 pub mod Steps
 pub mod Start
 pub mod Run

@@ -17,7 +17,7 @@ use Rattle.table.specs.declared.Refusal.{Refusal}
 use Rattle.table.specs.declared.Answer.{Answer}
 use Rattle.table.specs.declared.Answer.TheVariants.{No}
 use Rattle.table.specs.declared.Outcome.{Outcome}
-use Rattle.machine.specs.Numbers.{refusal, Effect, harmless, endsNew, spends, breaks, effect_of}
+use Rattle.machine.specs.Numbers.{refusal, Effect, harmless, ends_new, spends, breaks, effect_of}
 
 -- a task entry, a table and the marks, by their parts
 abbrev pub entry : List Primary → Pending → Storing → Place → Task
@@ -84,7 +84,7 @@ out t x = record { table = t; answer = x }
 -- "10 and 11 leave the table as it came but marked dead", the others as it came
 abbrev pub marked : Table → Effect → Table
 marked t harmless = t
-marked t endsNew = t
+marked t ends_new = t
 marked t spends = with_life t Spent
 marked t breaks = with_life t Broken
 

@@ -4,7 +4,7 @@ use Rattle.table.specs.declared.Place.{Place}
 use Rattle.table.specs.declared.Place.TheVariants.{Idle, New, Asked, FillWrite, FillCopy, StoreWrite, Meet, StoreCopy, Take, Read, Put, Release, Looking, Placing}
 use Rattle.table.specs.declared.Answer.{Answer}
 use Rattle.table.specs.declared.Answer.TheVariants.{Accepted, Done, Value, Moved, Wait, Report, No}
-use Rattle.machine.specs.Numbers.{Effect, harmless, endsNew, spends, breaks, effect_of}
+use Rattle.machine.specs.Numbers.{Effect, harmless, ends_new, spends, breaks, effect_of}
 use Rattle.machine.specs.Basics.{pick}
 use Rattle.machine.specs.Entries.{Ends, task_at}
 use Rattle.machine.specs.Call.{Call}
@@ -65,7 +65,7 @@ moved_kinds (Placing p next) after = []
 -- refusal 9 ends the New
 abbrev pub refused_kinds : Effect → List Kind
 refused_kinds harmless = []
-refused_kinds endsNew = Ended ∷ []
+refused_kinds ends_new = Ended ∷ []
 refused_kinds spends = []
 refused_kinds breaks = []
 

@@ -36,7 +36,7 @@ refusal n =
 
 -- what a refusal does beside saying no: 9 ends the New, 10 and 11 mark the table dead
 pub data Effect : Type 0 where
-  harmless endsNew spends breaks : Effect
+  harmless ends_new spends breaks : Effect
 
 abbrev pub effect_of : Refusal → Effect
 effect_of WrongLimit = harmless
@@ -47,7 +47,7 @@ effect_of NoSlot = harmless
 effect_of OutOfTurn = harmless
 effect_of Held = harmless
 effect_of SlotInStore = harmless
-effect_of NoRoom = endsNew
+effect_of NoRoom = ends_new
 effect_of Exhausted = spends
 effect_of Damaged = breaks
 

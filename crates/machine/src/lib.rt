@@ -1,3 +1,3 @@
 #![tactic(auto)]
 
-// Definitions and theorems only, in specs/. No code.
+// Definitions in specs/, what is proved of them in proofs/. No code.

@@ -3,7 +3,7 @@
 
 ghost use Rattle.std.specs.Prelude.{◌≡◌, ◌≤◌, length, replicate};
 ghost use Rattle.machine.specs.Entries.{ends};
-ghost use Rattle.machine.specs.Setup.{limits, fresh_task, fresh_table, unset as unsetTable};
+ghost use Rattle.machine.specs.Setup.{limits, fresh_task, fresh_table, unset as unset_table};
 ghost use Rattle.machine.specs.Call.{Call};
 ghost use Rattle.machine.specs.Calls.{Meets, MeetsSetup};
 
@@ -69,7 +69,7 @@ fn fresh(l: Limits) -> Table
 
 // A table never set up: every call on it but set-up answers 1.
 pub fn unset() -> Table
-    ensures { result ≡ unsetTable }
+    ensures { result ≡ unset_table }
 {
     fresh(Limits {
         p: 0,

@@ -23,7 +23,7 @@ use Rattle.table.specs.declared.Answer.TheVariants.{Done}
 use Rattle.table.specs.declared.Outcome.{Outcome}
 use Rattle.machine.specs.Basics.{pick}
 use Rattle.machine.specs.Words.{object_of}
-use Rattle.machine.specs.Numbers.{refusal, Effect, harmless, endsNew, spends, breaks, effect_of}
+use Rattle.machine.specs.Numbers.{refusal, Effect, harmless, ends_new, spends, breaks, effect_of}
 use Rattle.machine.specs.Entries.{task_at, nil, register, with_task, with_place, with_register, with_root, marked, out, refused, no}
 use Rattle.machine.specs.Gate.{through, call_gate, pair_gate, table_gate}
 use Rattle.machine.specs.Tasks.{holding_of, idle_of, slot_taken}
@@ -46,14 +46,14 @@ through_all P (Shut x) t o r p = r x
 -- a refusal leaves the entries
 pub marked_tasks : (t : Table) (x : Effect) → (marked t x).tasks ≡ t.tasks
 marked_tasks t harmless = refl
-marked_tasks t endsNew = refl
+marked_tasks t ends_new = refl
 marked_tasks t spends = refl
 marked_tasks t breaks = refl
 
 -- and the collector as it was
 pub marked_on : (t : Table) (x : Effect) → (marked t x).on ≡ t.on
 marked_on t harmless = refl
-marked_on t endsNew = refl
+marked_on t ends_new = refl
 marked_on t spends = refl
 marked_on t breaks = refl
 

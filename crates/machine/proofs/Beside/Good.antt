@@ -12,7 +12,7 @@ use Rattle.table.specs.declared.Table.{Table}
 use Rattle.table.specs.declared.Refusal.TheVariants.{Exhausted}
 use Rattle.table.specs.declared.Answer.{Answer}
 use Rattle.table.specs.declared.Answer.TheVariants.{Accepted, Done, Value, Moved, Wait, Report, No}
-use Rattle.machine.specs.Numbers.{Effect, harmless, endsNew, spends, breaks, effect_of}
+use Rattle.machine.specs.Numbers.{Effect, harmless, ends_new, spends, breaks, effect_of}
 use Rattle.machine.specs.Entries.{no_task, task_at, moved_table, out, Ends, ends, entered}
 use Rattle.machine.specs.StillStore.{Store, happen_all}
 use Rattle.machine.specs.Kinds.{moved_kinds, step_kinds}
@@ -50,7 +50,7 @@ pub record Good (l : Limits) (w : Store) (hy : History) (t : Table) (ws : List �
 
 abbrev pub Harmless : Effect → Type 0
 Harmless harmless = Unit {0}
-Harmless endsNew = ⊥
+Harmless ends_new = ⊥
 Harmless spends = ⊥
 Harmless breaks = ⊥
 
@@ -83,7 +83,7 @@ Crowded t (Placing p th) = ⊥
 
 abbrev pub FineRefusal : Table → Place → Effect → Type 0
 FineRefusal t before harmless = Unit {0}
-FineRefusal t before endsNew = Crowded t before
+FineRefusal t before ends_new = Crowded t before
 FineRefusal t before spends = ⊥
 FineRefusal t before breaks = ⊥
 

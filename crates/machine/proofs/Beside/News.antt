@@ -25,7 +25,7 @@ use Rattle.machine.specs.New.{claimed, made, claimed_twice, new_on_of}
 use Rattle.machine.specs.Tasks.{holding_of}
 use Rattle.machine.specs.StillStore.{Store, Kind, Made, Ended, Doing, happens, making, owner_at, happen_all}
 use Rattle.machine.specs.Kinds.{done_kinds}
-use Rattle.machine.specs.StillStore.{makes as makesThing}
+use Rattle.machine.specs.StillStore.{makes as makes_thing}
 use Rattle.machine.proofs.Objects.Base.{off_on, upd, upd_same, upd_other}
 use Rattle.machine.proofs.Objects.State.{State, jobs_in}
 use Rattle.machine.proofs.Objects.Inv.{Inv}
@@ -143,8 +143,8 @@ module _ {l : Limits} {w : Store} {hy : History} {t : Table} {ws : List ℕ} (g 
   claims_off X before kinds quiet pe off room =
       finishes g i before X g.kept (upd g.pa new (t.marks.a + 2)) g.ra
       (makes g.objects len m i (ended_entry (g.objects.tasks i).regs (Making (primary new) r len 0))) _ (claimed t.marks (len + 2)) (made t.marks r len) Done
-      (happens (makesThing w i (making r len m)) i Ended) tt
-      (λ after. ap (λ (ks : List Kind). happen_all w i ks) (kinds after) ∙ ap (λ (d : Doing). happens (makesThing w i d) i Ended) doing)
+      (happens (makes_thing w i (making r len m)) i Ended) tt
+      (λ after. ap (λ (ks : List Kind). happen_all w i ks) (kinds after) ∙ ap (λ (d : Doing). happens (makes_thing w i d) i Ended) doing)
       (new_off g.inv i ip r len m off pe)
       (rw table_is
       (make_off_agree g.inv g.agree i ip (ended_entry (g.objects.tasks i).regs (Making (primary new) r len 0)) len m off (omega (arith, room))
@@ -168,12 +168,12 @@ module _ {l : Limits} {w : Store} {hy : History} {t : Table} {ws : List ℕ} (g 
 
       k : Still (one_more g.objects.shape len m) g.objects.prim
           (upd g.objects.tasks i (goes_with (g.objects.tasks i) (Making (primary (suc g.objects.shape.n)) r len 0) (New r len m))) g.objects.roots
-          (makesThing w i (making r len m))
+          (makes_thing w i (making r len m))
       k = still_made g.still i (below g i ip) r len m (New r len m) doing refl
 
       still : Still (one_more g.objects.shape len m) g.objects.prim
           (upd g.objects.tasks i (ended_entry (g.objects.tasks i).regs (Making (primary (suc g.objects.shape.n)) r len 0))) g.objects.roots
-          (happens (makesThing w i (making r len m)) i Ended)
+          (happens (makes_thing w i (making r len m)) i Ended)
       still =
           let q = rw (upd_same g.objects.tasks i e₁) at (k.tasks i (below g i ip)) in
           rw (upd_twice g.objects.tasks i e₁ (ended_entry (g.objects.tasks i).regs (Making (primary (suc g.objects.shape.n)) r len 0)))

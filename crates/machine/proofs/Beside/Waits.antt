@@ -2,7 +2,7 @@
 use Rattle.std.specs.Prelude.{◌≡◌, refl}
 use Rattle.table.specs.declared.Place.{Place}
 use Rattle.table.specs.declared.Place.TheVariants.{Idle, New, Asked, FillWrite, FillCopy, StoreWrite, Meet, StoreCopy, Take, Read, Put, Release, Looking, Placing}
-use Rattle.machine.specs.Numbers.{Effect, harmless, endsNew, spends, breaks}
+use Rattle.machine.specs.Numbers.{Effect, harmless, ends_new, spends, breaks}
 use Rattle.machine.specs.Flip.{unasked}
 use Rattle.machine.specs.Kinds.{refused_kinds}
 use Rattle.machine.specs.Beside.Waits.{waits, writes}
@@ -10,7 +10,7 @@ use Rattle.machine.specs.Beside.Waits.{waits, writes}
 -- a refusal writes nothing
 pub refused_writes : (x : Effect) → writes (refused_kinds x) ≡ 0
 refused_writes harmless = refl
-refused_writes endsNew = refl
+refused_writes ends_new = refl
 refused_writes spends = refl
 refused_writes breaks = refl
 

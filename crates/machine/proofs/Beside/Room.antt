@@ -1,1 +1,0 @@
--- The reason for a refusal 10: a place, or a flip, without room.

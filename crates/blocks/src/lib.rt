@@ -3,6 +3,7 @@
 
 ghost use Rattle.std.specs.Prelude.{◌≡◌, ◌≢◌, ℕ, ◌+◌, ◌-◌, ◌*◌, ◌≤◌, ◌<◌, true, false, length, take, drop, slice_index, Ok, IfOk, OnOk, OnErr};
 ghost use Rattle.std.specs.Io.KnownBytes.{Appends, Consumes, Keeps, IsAtEnd};
+ghost use Rattle.blocks.specs.Writes.{AppendsPart};
 
 use std::io;
 use std::io::{Read, Write};
@@ -31,21 +32,31 @@ pub fn line_end(buf: &[u8], from: usize, n: usize) -> usize
     i
 }
 
-// Writes what is in use. After an error nobody knows how much of it was written.
+// Writes what is in use. An error is the writer's own, or that it took nothing; it comes only where something is left
+// unwritten, and what was written before it stays.
 pub fn flush<W: Write>(output: &mut W, out: &[u8], used: usize) -> io::Result<()>
     requires { used ≤ length out.now }
-    ensures { OnOk result (Appends (W.contents output.old) (W.contents output.new) (take used out.now)) }
+    ensures written { OnOk result (Appends (W.contents output.old) (W.contents output.new) (take used out.now)) }
+    ensures cut { OnErr result (AppendsPart (W.contents output.old) (W.contents output.new) (take used out.now)) }
 {
-    output.write_all(&out[..used])
+    let mut rest = &out[..used];
+    while !rest.is_empty() {
+        let n = output.write(rest)?;
+        if n == 0 {
+            return Err(io::Error::from(io::ErrorKind::WriteZero));
+        }
+        rest = &rest[n..];
+    }
+    Ok(())
 }
 
-// Room for an answer, where it begins: writes what is there if there is none left. After an error nobody knows how
-// much of it was written.
+// Room for an answer, where it begins: writes what is there if there is none left. An error is that of the write.
 pub fn room_in<W: Write>(output: &mut W, out: &[u8], used: usize) -> io::Result<usize>
     requires { (used ≤ length out.now) × (64 ≤ length out.now) }
     ensures room { IfOk result (λ at. at + 40 ≤ length out.now) }
     ensures full { length out.now < used + 64 → IfOk result (λ at. (at ≡ 0) × Appends (W.contents output.old) (W.contents output.new) (take used out.now)) }
     ensures free { used + 64 ≤ length out.now → (result ≡ Ok used) × (output.new ≡ output.old) }
+    ensures cut { OnErr result (AppendsPart (W.contents output.old) (W.contents output.new) (take used out.now)) }
 {
     if out.len() - used < 64 {
         flush(output, out, used)?;

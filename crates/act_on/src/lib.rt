@@ -3,76 +3,37 @@
 
 ghost use Rattle.std.specs.Prelude.{◌≡◌, length};
 ghost use Rattle.machine.specs.Bounds.{Sound};
-ghost use Rattle.machine.specs.Words.{end_of};
 ghost use Rattle.new.specs.Acts.{came};
 ghost use Rattle.act_on.specs.On.{on_act};
 
 use new::Act;
-use table::{Limits, Marks, Place, Refusal, Task};
+use table::{Limits, Place, Refusal, Table, Task};
 
-// Collecting: each item is one step.
+// Collecting: each item is one step, each place of a task an arm with what it holds. (The place is an enum, as 01 lays it down. An
+// action is given the few numbers that it uses: a struct of marks, words and longest object would be made for one call.)
 #[tactic(auto, unfolding(crate::specs::On::on_act))]
-pub fn on_act(l: Limits, upper: bool, m: Marks, words: &mut [u32], e: Task) -> Act
-    requires { Sound l upper m (length words.old) }
-    ensures { came result words.new ≡ on_act l m (end_of upper l.h) words.old e e.place }
+pub fn on_act(t: &Table, words: &mut [u32], e: &Task) -> Act
+    requires { Sound t.now.limits t.now.upper t.now.marks (length words.old) }
+    ensures { came result words.new ≡ on_act t.now words.old e.now e.now.place }
 {
-    let s = l.s;
-    let rate = l.k;
-    let pending = e.pending;
-    let storing = e.storing;
-    let place = e.place;
-    match place {
-        Place::Idle => new::failing(Refusal::OutOfTurn),
-        Place::New(r, len, k) => new::new_on(l, upper, m, words, r, len, k),
-        Place::Asked(_, _, _) => new::failing(Refusal::Damaged),
-        Place::FillWrite(v) => {
-            let d = fill::fill_write(true, m, words, s, pending, v);
-            Act::Does(d)
-        }
-        Place::FillCopy(c) => {
-            let d = fill::fill_copy(m, words, s, rate, pending, c);
-            Act::Does(d)
-        }
-        Place::StoreWrite(v) => {
-            let d = store::store_write(true, m, words, s, storing, v);
-            Act::Does(d)
-        }
-        Place::Meet(v) => {
-            let d = store::meet(m, words, s, rate, storing, v);
-            Act::Does(d)
-        }
-        Place::StoreCopy(c) => {
-            let d = store::store_copy(m, words, s, rate, storing, c);
-            Act::Does(d)
-        }
-        Place::Take(n) => {
-            let end = gates::end_of(upper, l.h);
-            if m.top < end {
-                let d = pay::take(m, words, s, n);
-                return Act::Does(d);
-            }
-            Act::Drained
-        },
-        Place::Read(n, x, k) => {
-            let d = pay::read(m, words, s, n, x, k);
-            Act::Does(d)
-        }
-        Place::Put(n, x, k, c) => {
-            let d = copy::put(m, words, s, n, x, k, c);
-            Act::Does(d)
-        }
-        Place::Release(n, x, k) => {
-            let d = copy::release(m, words, s, n, x, k);
-            Act::Does(d)
-        }
-        Place::Looking(p, then) => {
-            let d = look::look_step(m, words, s, p, then);
-            Act::Does(d)
-        }
-        Place::Placing(p, then) => {
-            let end = gates::end_of(upper, l.h);
-            let d = look::place_step(m, end, words, s, p, then);
-            Act::Does(d)
-        }
-    }
+    let Limits { s, k, h, .. } = t.limits;
+    let m = t.marks;
+    let end = gates::end_of(t.upper, h);
+    Act::Does(match e.place {
+        Place::Idle => return new::failing(Refusal::OutOfTurn),
+        Place::New(w) => return new::new_on(t, words, w),
+        Place::Asked(_) => return new::failing(Refusal::Damaged),
+        Place::FillWrite(v) => fill::fill_write(true, m, words, s, e.pending, v),
+        Place::FillCopy(c) => fill::fill_copy(m, words, s, k, e.pending, c),
+        Place::StoreWrite(v) => store::store_write(true, m, words, s, e.storing, v),
+        Place::Meet(v) => store::meet(m, words, s, k, e.storing, v),
+        Place::StoreCopy(c) => store::store_copy(m, words, s, k, e.storing, c),
+        Place::Take(n) if m.top < end => pay::take(m, words, s, n),
+        Place::Take(_) => return Act::Drained,
+        Place::Read(n, job) => pay::read(m, words, s, n, job),
+        Place::Put(n, job, c) => copy::put(m, words, s, n, job, c),
+        Place::Release(n, job) => copy::release(m, words, s, n, job),
+        Place::Looking(p, then) => look::look_step(m, words, s, p, then),
+        Place::Placing(p, then) => look::place_step(m, end, words, s, p, then),
+    })
 }

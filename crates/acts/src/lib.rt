@@ -3,48 +3,34 @@
 
 ghost use Rattle.std.specs.Prelude.{◌≡◌, length};
 ghost use Rattle.machine.specs.Bounds.{Sound};
-ghost use Rattle.machine.specs.Words.{end_of};
 ghost use Rattle.machine.specs.Entries.{pending_ok};
 ghost use Rattle.new.specs.Acts.{came};
 ghost use Rattle.acts.specs.TaskActs.{task_act};
 
 use new::Act;
-use table::{Limits, Marks, Pending, Refusal, Task};
+use table::{Making, Refusal, Table, Task};
 
 // The register that a pending object goes to is one.
-#[tactic(auto, using(machine::proofs::Rules::tests))]
-fn pending_ok(pending: Pending) -> bool
+fn pending_ok(pending: Option<Making>) -> bool
     ensures { result ≡ pending_ok pending }
 {
-    match pending {
-        Pending::Nothing => true,
-        Pending::Making(_, r, _, _) => {
-            if r < 8 {
-                return true;
-            }
-            false
-        }
-    }
+    pending.is_none_or(|d| d.register < 8)
 }
 
-// What the step of a task with entry e comes to.
+// What the step of a task with entry e comes to. (The table is only read: see `new_off` for why no type holds it and the words.)
 #[tactic(auto, unfolding(crate::specs::TaskActs::task_act))]
-pub fn task_act(on: bool, l: Limits, upper: bool, m: Marks, words: &mut [u32], e: Task) -> Act
-    requires { Sound l upper m (length words.old) }
-    ensures { came result words.new ≡ task_act on l m (end_of upper l.h) words.old e }
+pub fn task_act(t: &Table, words: &mut [u32], e: &Task) -> Act
+    requires { Sound t.now.limits t.now.upper t.now.marks (length words.old) }
+    ensures { came result words.new ≡ task_act t.now words.old e.now }
 {
-    let place = e.place;
-    let idle = tasks::idle(place);
-    if idle {
+    if tasks::idle(e.place) {
         return new::failing(Refusal::OutOfTurn);
     }
-    let pending = e.pending;
-    let fine = pending_ok(pending);
-    if fine {
-        if on {
-            return act_on::on_act(l, upper, m, words, e);
-        }
-        return act_off::off_act(l, upper, m, words, e);
+    if !pending_ok(e.pending) {
+        return new::failing(Refusal::Damaged);
     }
-    new::failing(Refusal::Damaged)
+    if t.on {
+        return act_on::on_act(t, words, e);
+    }
+    act_off::off_act(t, words, e)
 }

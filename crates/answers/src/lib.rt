@@ -9,7 +9,9 @@ mod writer;
 
 use table::Answer;
 
-// Puts the line of an answer into out from `at` on, and answers the index past it.
+// Puts the line of an answer into out from `at` on, and answers the index past it: the bytes are lent whole, so the place stands
+// beside them.
+// Not by `Display`: std says what was written only of its `InlineText`, and through that a script takes a fifth longer.
 #[tactic(auto, using(crate::proofs::Put::wrote_next), unfolding(crate::specs::Text::answer_text))]
 pub fn write_answer(answer: Answer, out: &mut [u8], at: usize) -> usize
     requires { at + 40 ≤ length out.old }

@@ -5,55 +5,32 @@ ghost use Rattle.answers.specs.Text.{decimal, newline, mode_text, report_text, w
 
 use table::Refusal;
 
-// 01's number of a refusal.
+// 01's number of a refusal. (A `From` would stand in crates/table, below the definition that its clause names.)
 pub fn number_of(x: Refusal) -> u32
     ensures { result ≡ number_of x }
 {
-    match x {
-        Refusal::WrongLimit => 1,
-        Refusal::NoTask => 2,
-        Refusal::NoRegister => 3,
-        Refusal::NilObject => 4,
-        Refusal::NoSlot => 5,
-        Refusal::OutOfTurn => 6,
-        Refusal::Held => 7,
-        Refusal::SlotInStore => 8,
-        Refusal::NoRoom => 9,
-        Refusal::Exhausted => 10,
-        Refusal::Damaged => 11,
-    }
+    x as u32
 }
 
-// Puts the bytes of text into out from `at` on, and answers the index past them.
-#[tactic(auto, using(crate::proofs::Put::put_end, crate::proofs::Put::same_wrote))]
+// Puts the bytes of text into out from `at` on, and answers the index past them. (Here and below: a type of the bytes and the
+// place would be made anew for each line.)
+#[tactic(auto, using(crate::proofs::Put::put_part))]
 pub fn put_text(text: &[u8], out: &mut [u8], at: usize) -> usize
     requires { at + length text.now ≤ length out.old }
     ensures { wrote result out.new ≡ written text.now out.old at }
 {
-    let n = text.len();
-    let mut i: usize = 0;
-    let mut p = at;
-    while i < n {
-        out[p] = text[i];
-        i = i + 1;
-        p = p + 1;
-    }
-    p
+    let end = at + text.len();
+    out[at..end].copy_from_slice(text);
+    end
 }
 
 // Puts the digits of n into out from `at` on, and answers the index past them.
-#[tactic(auto, using(crate::proofs::Put::small_length, crate::proofs::Put::more_length, crate::proofs::Put::put_small, crate::proofs::Put::put_more, crate::proofs::Put::wrote_next, crate::proofs::Put::wrote_length))]
+#[tactic(auto, using(crate::proofs::Put::decimal_is))]
 fn put_number(n: u32, out: &mut [u8], at: usize) -> usize
     requires { at + length (decimal n) ≤ length out.old }
     ensures { wrote result out.new ≡ written (decimal n) out.old at }
 {
-    if n < 10 {
-        out[at] = 48 + n as u8;
-        return at + 1;
-    }
-    let p = put_number(n / 10, out, at);
-    out[p] = 48 + (n % 10) as u8;
-    p + 1
+    put_text(itoa::Buffer::new().format(n).as_bytes(), out, at)
 }
 
 // Puts a word with its tab, a number and a newline.
@@ -75,9 +52,10 @@ fn put_mode(on: bool, out: &mut [u8], at: usize) -> usize
     ensures { wrote result out.new ≡ written (mode_text on) out.old at }
 {
     if on {
-        return put_text(b"report\ton\t", out, at);
+        put_text(b"report\ton\t", out, at)
+    } else {
+        put_text(b"report\toff\t", out, at)
     }
-    put_text(b"report\toff\t", out, at)
 }
 
 // Puts the line of a report.

@@ -1,116 +1,111 @@
 // Begin of Store of a plain word, and what that of a pointer shares: no word is written, and the task's first place is recorded.
 #![tactic(auto)]
 
-ghost use Rattle.std.specs.Prelude.{◌≡◌, ◌+◌, ◌<◌, length, get_or};
+ghost use Rattle.std.specs.Prelude.{◌≡◌, ◌+◌, ◌≤◌, ◌<◌, length, get_or, Some};
 ghost use Rattle.machine.specs.Entries.{entry, ends};
-ghost use Rattle.machine.specs.Begin.{store_place};
-ghost use Rattle.table.specs.declared.Storing.TheVariants.{Slot};
+ghost use Rattle.machine.specs.Begin.{begin_store_of, store_place};
 ghost use Rattle.machine.specs.Call.{Call};
 ghost use Rattle.machine.specs.Calls.{Meets};
-ghost use Rattle.begin_store.specs.Gate.{store_gate_of, Within};
+ghost use Rattle.entries.specs.Answered.{answered};
+ghost use Rattle.begin_store.specs.Gate.{store_gate_of, recorded_of, Within};
 
-use table::{
-    Answer, Gate, Object, Operand, Outcome, Place, Primary, Refusal, Storing, Table, Task, Then,
-};
+use table::{Answer, Operand, Outcome, Place, Primary, Refusal, Slot, Table, Task, Then};
 
-// The tests of a Store behind the opening: `no` says that the heap is held, `taken` that another task's Store is on the slot.
+// The tests of a Store of v into this slot, behind the opening: whether the heap is held, and whether another task's Store is on
+// the slot, has been asked before.
 #[tactic(auto, unfolding(crate::specs::Gate::store_gate_of))]
 pub fn store_gate(
     words: &[u32],
     s: u32,
-    no: bool,
+    held: bool,
     taken: bool,
-    x: Primary,
-    slot: u32,
-    v: Operand,
-) -> Gate
-    ensures { (result ≡ store_gate_of words.now s no taken x slot v) × Within result (x.0 + slot) (length words.now) }
+    at: Slot,
+    v: Operand<Primary>,
+) -> Result<(), Refusal>
+    ensures { (result ≡ store_gate_of words.now s held taken at.object at.index v) × Within result (at.object.0 + at.index) (length words.now) }
 {
-    if no {
-        return Gate::Shut(Refusal::Held);
+    if held {
+        return Err(Refusal::Held);
     }
-    let at = x.0;
-    if at == 0 {
-        return Gate::Shut(Refusal::NilObject);
+    if at.object == Primary(0) {
+        return Err(Refusal::NilObject);
     }
-    let o = objects::object_at(words, s, x);
-    let Object::Whole(len, m) = o else {
-        return Gate::Shut(Refusal::Damaged);
-    };
-    if len <= slot {
-        return Gate::Shut(Refusal::NoSlot);
+    let o = objects::object_at(words, s, at.object).ok_or(Refusal::Damaged)?;
+    if o.len <= at.index || !opening::right_kind(v, at.index, o.m) {
+        return Err(Refusal::NoSlot);
     }
-    let right = opening::right_kind(v, slot, m);
-    if right {
-        if taken {
-            return Gate::Shut(Refusal::SlotInStore);
-        }
-        return Gate::Open;
+    if taken {
+        return Err(Refusal::SlotInStore);
     }
-    Gate::Shut(Refusal::NoSlot)
+    Ok(())
 }
 
 // The first place of a Store: while collecting, a non-nil old pointer is looked at first.
-#[tactic(auto, using(machine::proofs::Rules::tests))]
-fn store_place(on: bool, old: u32, v: Operand) -> Place
+fn store_place(on: bool, old: u32, v: Operand<Primary>) -> Place
     ensures { result ≡ store_place on old v }
 {
     match v {
-        Operand::Plain(_) => Place::StoreWrite(v),
-        Operand::Pointer(_) => {
-            if on {
-                if old == 0 {
-                    return Place::StoreWrite(v);
-                }
-                return Place::Looking(Primary(old), Then::ToWrite(v));
-            }
-            Place::StoreWrite(v)
-        }
+        Operand::Pointer(_) if on && old != 0 => Place::Looking(Primary(old), Then::ToWrite(v)),
+        _ => Place::StoreWrite(v),
     }
 }
 
 // The entry of a task whose Store has begun.
-pub fn begun(e: Task, words: &[u32], on: bool, x: Primary, slot: u32, v: Operand) -> Task
-    requires { x.0 + slot < length words.now }
-    ensures { result ≡ entry e.regs e.pending (Slot x slot) (store_place on (get_or words.now (x.0 + slot) 0) v) }
+pub fn begun(e: Task, words: &[u32], on: bool, at: Slot, v: Operand<Primary>) -> Task
+    requires { at.object.0 + at.index < length words.now }
+    ensures { result ≡ entry e.regs e.pending (Some at) (store_place on (get_or words.now (at.object.0 + at.index) 0) v) }
 {
-    let at = x.0;
-    let old = words[(at as usize) + (slot as usize)];
-    let first = store_place(on, old, v);
+    let old = words[at.object.0 as usize + at.index as usize];
     Task {
-        storing: Storing::Slot(x, slot),
-        place: first,
+        storing: Some(at),
+        place: store_place(on, old, v),
         ..e
     }
 }
 
-#[tactic(auto, using(opening::proofs::Opens::admitted, opening::proofs::Opens::by_opening, opening::proofs::Opens::one_register, crate::proofs::Opens::by_gate), unfolding(machine::specs::Begin::begin_store_of, machine::specs::Begin::store_from, machine::specs::Entries::with_task))]
+// Behind the opening: a Store of v into this slot has begun, or is refused.
+#[tactic(auto, using(crate::proofs::Opens::by_gate), unfolding(machine::specs::Entries::with_task, machine::specs::Tasks::slot_taken))]
+pub fn recorded(
+    t: &mut Table,
+    words: &[u32],
+    task: u32,
+    at: Slot,
+    v: Operand<Primary>,
+) -> Result<Answer, Refusal>
+    requires { (task < 8) × (t.old.limits.p ≤ 8) × (t.old.limits.h ≤ 8190) }
+    ensures { answered t.new result ≡ recorded_of t.old words.now task at v }
+{
+    let held = opening::held(t);
+    let taken = search::row_of(t).slot_taken(task, at);
+    store_gate(words, t.limits.s, held, taken, at, v)?;
+    let e = t.tasks[task as usize];
+    t.tasks[task as usize] = begun(e, words, t.on, at, v);
+    Ok(Answer::Accepted)
+}
+
+#[tactic(auto, using(opening::proofs::Opens::by_opening, opening::proofs::Opens::one_register), unfolding(machine::specs::Begin::begin_store_of, machine::specs::Begin::store_from))]
+fn stored(
+    t: &mut Table,
+    words: &[u32],
+    task: u32,
+    object: u32,
+    slot: u32,
+    word: u32,
+) -> Result<Answer, Refusal>
+    ensures { answered t.new result ≡ begin_store_of t.old words.now task object slot word }
+{
+    let e = opening::turn(t, words.len(), task, object, object)?;
+    let at = Slot {
+        object: e.regs[object as usize],
+        index: slot,
+    };
+    recorded(t, words, task, at, Operand::Plain(word))
+}
+
 pub fn begin_store(t: Table, words: &[u32], task: u32, object: u32, slot: u32, word: u32) -> Outcome
     ensures { Meets (Call.Store task object slot word) t words.now (ends result words.now) }
 {
     let mut u = t;
-    let i = (task % 8) as usize;
-    let e = u.tasks[i];
-    let l = u.limits;
-    let life = u.life;
-    let m = u.marks;
-    let g = opening::turn_gate(l, life, u.upper, m, words.len(), task, object, object, e);
-    if let Gate::Shut(x) = g {
-        return entries::refused(u, x);
-    }
-    let ts = u.tasks;
-    let no = opening::held(l, u.upper, u.on, m, ts);
-    let x = entries::register(e, object as usize);
-    let taken = search::slot_taken(ts, l.p as usize, task, x, slot);
-    let v = Operand::Plain(word);
-    let k = store_gate(words, l.s, no, taken, x, slot, v);
-    if let Gate::Shut(y) = k {
-        return entries::refused(u, y);
-    }
-    let f = begun(e, words, u.on, x, slot, v);
-    u.tasks[i] = f;
-    Outcome {
-        table: u,
-        answer: Answer::Accepted,
-    }
+    let answer = stored(&mut u, words, task, object, slot, word);
+    entries::answered(u, answer)
 }

@@ -1,45 +1,37 @@
 // Blocks of input and output: reading the next, finding a line's end, making room for an answer.
 #![tactic(auto)]
 
-ghost use Rattle.std.specs.Prelude.{◌≡◌, ◌≢◌, ℕ, ◌+◌, ◌-◌, ◌*◌, ◌≤◌, ◌<◌, true, false, length, take, drop, slice_index, Ok, IfOk, OnOk, OnErr};
+ghost use Rattle.std.specs.Prelude.{◌≡◌, ◌≢◌, ℕ, ◌+◌, ◌-◌, ◌*◌, ◌≤◌, ◌<◌, true, false, length, take, drop, slice_index, Ok, IfSome, IfNone, IfOk, OnOk, OnErr};
 ghost use Rattle.std.specs.Io.KnownBytes.{Appends, Consumes, Keeps, IsAtEnd};
 ghost use Rattle.blocks.specs.Writes.{AppendsPart};
 
 use std::io;
 use std::io::{Read, Write};
 
-// How many bytes of the input's buffer are lines to answer, and whether the input has ended.
+// How many bytes of the input's buffer are lines to answer, and whether the input has ended: a last block has bytes too.
 #[derive(Drop)]
 pub struct Block {
     pub last: bool,
     pub n: usize,
 }
 
-// The first line end at or past `from`, or n where there is none.
-pub fn line_end(buf: &[u8], from: usize, n: usize) -> usize
-    requires { (from ≤ n) × (n ≤ length buf.now) }
-    ensures within { (from ≤ result) × (result ≤ n) }
-    ensures before { (k : ℕ) → from ≤ k → k < result → slice_index buf.now k ≢ 10 }
-    ensures found { result < n → slice_index buf.now result ≡ 10 }
+// Where the first line ends: the first line end of the bytes, or none.
+pub fn line_end(bytes: &[u8]) -> Option<usize>
+    ensures within { IfSome result (λ end. end < length bytes.now) }
+    ensures before { IfSome result (λ end. (k : ℕ) → k < end → slice_index bytes.now k ≢ 10) }
+    ensures found { IfSome result (λ end. slice_index bytes.now end ≡ 10) }
+    ensures none { IfNone result ((k : ℕ) → k < length bytes.now → slice_index bytes.now k ≢ 10) }
 {
-    let mut i = from;
-    while i < n {
-        if buf[i] == 10 {
-            return i;
-        }
-        i = i + 1;
-    }
-    i
+    bytes.iter().position(|&b| b == b'\n')
 }
 
-// Writes what is in use. An error is the writer's own, or that it took nothing; it comes only where something is left
-// unwritten, and what was written before it stays.
-pub fn flush<W: Write>(output: &mut W, out: &[u8], used: usize) -> io::Result<()>
-    requires { used ≤ length out.now }
-    ensures written { OnOk result (Appends (W.contents output.old) (W.contents output.new) (take used out.now)) }
-    ensures cut { OnErr result (AppendsPart (W.contents output.old) (W.contents output.new) (take used out.now)) }
+// Writes the bytes. An error is the writer's own, or that it took nothing; it comes only where something is left
+// unwritten, and what was written before it stays: `write_all` says neither, and tries an interrupted write again.
+pub fn flush<W: Write>(output: &mut W, bytes: &[u8]) -> io::Result<()>
+    ensures written { OnOk result (Appends (W.contents output.old) (W.contents output.new) bytes.now) }
+    ensures cut { OnErr result (AppendsPart (W.contents output.old) (W.contents output.new) bytes.now) }
 {
-    let mut rest = &out[..used];
+    let mut rest = bytes;
     while !rest.is_empty() {
         let n = output.write(rest)?;
         if n == 0 {
@@ -50,7 +42,8 @@ pub fn flush<W: Write>(output: &mut W, out: &[u8], used: usize) -> io::Result<()
     Ok(())
 }
 
-// Room for an answer, where it begins: writes what is there if there is none left. An error is that of the write.
+// Room for an answer, where it begins: writes what is there if there is none left. An error is that of the write. (The buffer is
+// lent whole, since the answer goes behind what is in use.)
 pub fn room_in<W: Write>(output: &mut W, out: &[u8], used: usize) -> io::Result<usize>
     requires { (used ≤ length out.now) × (64 ≤ length out.now) }
     ensures room { IfOk result (λ at. at + 40 ≤ length out.now) }
@@ -59,26 +52,20 @@ pub fn room_in<W: Write>(output: &mut W, out: &[u8], used: usize) -> io::Result<
     ensures cut { OnErr result (AppendsPart (W.contents output.old) (W.contents output.new) (take used out.now)) }
 {
     if out.len() - used < 64 {
-        flush(output, out, used)?;
+        flush(output, &out[..used])?;
         return Ok(0);
     }
     Ok(used)
 }
 
-// Moves the bytes from `from` up to n to the front, and answers how many they are.
+// Moves the bytes from `from` up to n to the front, and answers how many they are. (Of the whole buffer: its front takes them.)
 pub fn to_front(buf: &mut [u8], from: usize, n: usize) -> usize
     requires { (from ≤ n) × (n ≤ length buf.old) }
     ensures count { result + from ≡ n }
     ensures moved { (k : ℕ) → k < result → slice_index buf.new k ≡ slice_index buf.old (k + from) }
 {
-    let mut i: usize = 0;
-    let mut j = from;
-    while j < n {
-        buf[i] = buf[j];
-        i = i + 1;
-        j = j + 1;
-    }
-    i
+    buf.copy_within(from..n, 0);
+    n - from
 }
 
 // Reads the next block behind the unfinished line. Where the input has ended, a last line without its line end gets
@@ -104,7 +91,7 @@ pub fn next_block<R: Read>(
         if have == 0 && !skip {
             return Ok(Block { last: true, n: 0 });
         }
-        buf[have] = 10;
+        buf[have] = b'\n';
         return Ok(Block {
             last: true,
             n: have + 1,
@@ -122,8 +109,5 @@ pub fn size_of(h: u32) -> usize
     ensures heap { h ≤ 8190 → result ≡ 2 + 2 * h }
     ensures none { 8190 < h → result ≡ 0 }
 {
-    if 8190 < h {
-        return 0;
-    }
-    2 + 2 * (h as usize)
+    if 8190 < h { 0 } else { 2 + 2 * (h as usize) }
 }

@@ -1,31 +1,30 @@
 // Clear, which makes a register nil; it completes at once.
 #![tactic(auto)]
 
+ghost use Rattle.std.specs.Prelude.{◌≡◌};
+ghost use Rattle.machine.specs.Complete.{clear_of};
 ghost use Rattle.machine.specs.Entries.{ends};
 ghost use Rattle.machine.specs.Call.{Call};
 ghost use Rattle.machine.specs.Calls.{Meets};
+ghost use Rattle.entries.specs.Answered.{answered};
 
-use table::{Answer, Gate, Outcome, Primary, Table};
+use table::{Answer, Outcome, Primary, Refusal, Table};
 
 // A register becomes nil.
-#[tactic(auto, using(opening::proofs::Opens::admitted, opening::proofs::Opens::by_opening), unfolding(machine::specs::Complete::clear_of, machine::specs::Entries::with_register, machine::specs::Entries::with_task))]
+#[tactic(auto, using(opening::proofs::Opens::by_opening), unfolding(machine::specs::Complete::clear_of, machine::specs::Entries::with_register, machine::specs::Entries::with_task))]
+fn cleared(t: &mut Table, words: &[u32], task: u32, r: u32) -> Result<Answer, Refusal>
+    ensures { answered t.new result ≡ clear_of t.old words.now task r }
+{
+    let mut e = opening::turn(t, words.len(), task, r, r)?;
+    e.regs[r as usize] = Primary(0);
+    t.tasks[task as usize] = e;
+    Ok(Answer::Done)
+}
+
 pub fn clear_register(t: Table, words: &[u32], task: u32, r: u32) -> Outcome
     ensures { Meets (Call.Clear task r) t words.now (ends result words.now) }
 {
     let mut u = t;
-    let i = (task % 8) as usize;
-    let e = u.tasks[i];
-    let l = u.limits;
-    let life = u.life;
-    let m = u.marks;
-    let g = opening::turn_gate(l, life, u.upper, m, words.len(), task, r, r, e);
-    if let Gate::Shut(x) = g {
-        return entries::refused(u, x);
-    }
-    let f = entries::with_register(e, r as usize, Primary(0));
-    u.tasks[i] = f;
-    Outcome {
-        table: u,
-        answer: Answer::Done,
-    }
+    let answer = cleared(&mut u, words, task, r);
+    entries::answered(u, answer)
 }

@@ -6,28 +6,20 @@ ghost use Rattle.machine.specs.Bounds.{Fits};
 ghost use Rattle.machine.specs.Deeds.{acted};
 ghost use Rattle.machine.specs.Pay.{put_of, paid as paid_of, release_of};
 
-use table::{Copied, Deed, Look, Marks, Place, Primary, Refusal};
+use table::{Deed, Look, Marks, Operand, Place, Refusal, Replica, Slot};
 
 // Pay: the replica's slot is written.
-#[tactic(auto, using(machine::proofs::Rules::tests, objects::proofs::Unforwarded::unforwarded), unfolding(machine::specs::Pay::put_of))]
-pub fn put(m: Marks, words: &mut [u32], s: u32, n: u32, x: Primary, i: u32, c: Copied) -> Deed
-    ensures { acted result words.new ≡ put_of m words.old s n x i c }
+#[tactic(auto, unfolding(machine::specs::Pay::put_of, look::specs::Slots::copied_of))]
+pub fn put(m: Marks, words: &mut [u32], s: u32, n: u32, job: Slot, c: Operand<Replica>) -> Deed
+    ensures { acted result words.new ≡ put_of m words.old s n job.object job.index c }
 {
-    let seen = objects::look_at(words, s, x);
-    let Look::Forwarded(r, len) = seen else {
-        return Deed::Fails(Refusal::Damaged);
-    };
-    if len <= i {
-        return Deed::Fails(Refusal::Damaged);
+    if look::write_copy(words, s, job, c) {
+        return Deed::Goes(m, Place::Release(n, job));
     }
-    let w = objects::copied_word(c);
-    let at = r.0 as usize;
-    words[at + (i as usize)] = w;
-    Deed::Goes(m, Place::Release(n, x, i))
+    Deed::Fails(Refusal::Damaged)
 }
 
 // The last copy ends the payment.
-#[tactic(auto, using(machine::proofs::Rules::tests))]
 fn paid(m: Marks, n: u32) -> Deed
     requires { 1 ≤ n }
     ensures { result ≡ paid_of m n }
@@ -39,50 +31,28 @@ fn paid(m: Marks, n: u32) -> Deed
 }
 
 // Pay: the slot is released, and the object pushed back if slots are left.
-#[tactic(auto, using(machine::proofs::Rules::tests, objects::proofs::Unforwarded::unforwarded), unfolding(machine::specs::Pay::release_of))]
-pub fn release(m: Marks, words: &mut [u32], s: u32, n: u32, x: Primary, i: u32) -> Deed
+#[tactic(auto, unfolding(machine::specs::Pay::release_of))]
+pub fn release(m: Marks, words: &mut [u32], s: u32, n: u32, job: Slot) -> Deed
     requires { Fits m m.top (length words.old) }
-    ensures { acted result words.new ≡ release_of m words.old s n x i }
+    ensures { acted result words.new ≡ release_of m words.old s n job.object job.index }
 {
-    let a = m.a;
-    let top = m.top;
-    let j = m.j;
-    let copies = m.copies;
-    let seen = objects::look_at(words, s, x);
-    let Look::Forwarded(r, len) = seen else {
+    let Slot { object, index } = job;
+    let Look::Forwarded(r, len) = objects::look_at(words, s, object) else {
         return Deed::Fails(Refusal::Damaged);
     };
-    if len <= i {
+    if len <= index || m.j == 0 || n == 0 {
         return Deed::Fails(Refusal::Damaged);
     }
-    if j == 0 {
-        return Deed::Fails(Refusal::Damaged);
+    words[r.0 as usize - 1] = index;
+    let released = Marks {
+        j: m.j - 1,
+        copies: m.copies + 1,
+        ..m
+    };
+    if index == 0 {
+        return paid(released, n);
     }
-    if n == 0 {
-        return Deed::Fails(Refusal::Damaged);
-    }
-    let at = r.0 as usize;
-    if i == 0 {
-        words[at - 1] = 0;
-        return paid(
-            Marks {
-                a: a,
-                top: top,
-                j: j - 1,
-                copies: copies + 1,
-            },
-            n,
-        );
-    }
-    words[at - 1] = i;
-    words[top as usize - 1] = x.0;
-    paid(
-        Marks {
-            a: a,
-            top: top - 1,
-            j: j - 1,
-            copies: copies + 1,
-        },
-        n,
-    )
+    let top = m.top - 1;
+    words[top as usize] = object.0;
+    paid(Marks { top, ..released }, n)
 }

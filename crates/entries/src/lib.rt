@@ -1,17 +1,18 @@
-// Refusals, the parts of an entry, and tables with one part changed.
+// Refusals, how a call ends, and tables with one part changed.
 #![tactic(auto)]
 
-ghost use Rattle.std.specs.Prelude.{◌≡◌, ◌<◌, length, set};
-ghost use Rattle.machine.specs.Entries.{refused as refused_of, out, with_life, with_place, moved_table, entry, register as register_of};
+ghost use Rattle.std.specs.Prelude.{◌≡◌, ◌<◌};
+ghost use Rattle.machine.specs.Entries.{refused as refused_of, out, with_life, with_place, moved_table};
+ghost use Rattle.entries.specs.Answered.{answered as answered_of};
 ghost use Rattle.table.specs.declared.Answer.TheVariants.{No};
 
-use table::{Answer, Life, Marks, Outcome, Pending, Place, Primary, Refusal, Table, Task};
+use table::{Answer, Life, Making, Marks, Outcome, Place, Refusal, Table, Task};
 
 fn dead(t: Table, life: Life, x: Refusal) -> Outcome
     ensures { result ≡ out (with_life t life) (No x) }
 {
     Outcome {
-        table: Table { life: life, ..t },
+        table: Table { life, ..t },
         answer: Answer::No(x),
     }
 }
@@ -45,29 +46,15 @@ pub fn refused(t: Table, x: Refusal) -> Outcome
     }
 }
 
-// A task's registers. (That there are eight is told by the contract: a caller cannot see it of an element of an array.)
-#[tactic(auto, using(crate::proofs::Arrays::length_mapped))]
-pub fn registers_of(e: Task) -> [Primary; 8]
-    ensures { (result ≡ e.regs) × (length result ≡ 8) }
+// How a call ends that was answered, or refused. (The calls hand it what an inner function made of their one table: a closure in
+// place of that would need a clause on what it leaves of a lent table, longer than the line that it saves.)
+pub fn answered(t: Table, a: Result<Answer, Refusal>) -> Outcome
+    ensures { result ≡ answered_of t a }
 {
-    e.regs
-}
-
-// One register of a task's entry, and the entry with it set.
-pub fn register(e: Task, r: usize) -> Primary
-    requires { r < 8 }
-    ensures { result ≡ register_of e r }
-{
-    e.regs[r]
-}
-
-pub fn with_register(e: Task, r: usize, p: Primary) -> Task
-    requires { r < 8 }
-    ensures { result ≡ entry (set e.regs r p) e.pending e.storing e.place }
-{
-    let mut f = e;
-    f.regs[r] = p;
-    f
+    match a {
+        Ok(answer) => Outcome { table: t, answer },
+        Err(x) => refused(t, x),
+    }
 }
 
 // One task at another place of its instruction.
@@ -76,26 +63,23 @@ pub fn with_place(t: Table, i: usize, place: Place) -> Table
     requires { i < 8 }
     ensures { result ≡ with_place t i place }
 {
-    let e = t.tasks[i];
-    let f = Task { place: place, ..e };
     let mut u = t;
-    u.tasks[i] = f;
+    u.tasks[i].place = place;
     u
 }
 
 // One task moved to a place, with these marks and this pending object.
 #[tactic(auto, unfolding(machine::specs::Entries::moved_table))]
-pub fn moved_table(t: Table, i: usize, m: Marks, pending: Pending, place: Place) -> Table
+pub fn moved_table(t: Table, i: usize, m: Marks, pending: Option<Making>, place: Place) -> Table
     requires { i < 8 }
     ensures { result ≡ moved_table t i m pending place }
 {
-    let e = t.tasks[i];
-    let f = Task {
-        pending: pending,
-        place: place,
+    let mut u = Table { marks: m, ..t };
+    let e = u.tasks[i];
+    u.tasks[i] = Task {
+        pending,
+        place,
         ..e
     };
-    let mut u = Table { marks: m, ..t };
-    u.tasks[i] = f;
     u
 }

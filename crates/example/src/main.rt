@@ -9,9 +9,10 @@ use heap::{Outcome, Table};
 use std::io;
 use std::io::Write;
 
-// One call by its letter, with up to four numbers.
-fn made(t: Table, words: &mut [u32], call: u8, a: u32, b: u32, c: u32, d: u32) -> Outcome {
-    match call {
+// One call by its letter, with up to four numbers. The letters stand only in calls.rt: an enum of calls would be matched
+// from them first, and then again here.
+fn made(t: Table, words: &mut [u32], letter: u8, a: u32, b: u32, c: u32, d: u32) -> Outcome {
+    match letter {
         b's' => heap::setup(t, a, b, c, d, words),
         b'n' => heap::begin_new(t, words, a, b, c, d),
         b'f' => heap::begin_fill(t, words, a, b),
@@ -23,32 +24,24 @@ fn made(t: Table, words: &mut [u32], call: u8, a: u32, b: u32, c: u32, d: u32) -
     }
 }
 
+// A byte as calls.rt writes a number.
 fn number(b: u8) -> u32 {
-    if b < 48 {
-        return 0;
-    }
-    (b - 48) as u32
+    u32::from(b.saturating_sub(b'0'))
 }
 
 // Makes the calls, from a table never set up, and writes each answer and the state behind it, as long as they can be
 // written.
 pub fn run<W: Write>(output: &mut W, words: &mut [u32], calls: &[u8]) -> io::Result<()> {
-    let n = calls.len();
     let mut t = heap::unset();
-    let mut i: usize = 0;
-    while 6 <= n - i {
-        let next = i + 6;
-        let a = number(calls[i + 1]);
-        let b = number(calls[i + 2]);
-        let c = number(calls[i + 3]);
-        let d = number(calls[i + 4]);
-        let o = made(t, words, calls[i], a, b, c, d);
-        let answer = o.answer;
-        let u = o.table;
+    for call in calls.chunks_exact(6) {
+        let &[letter, a, b, c, d, _] = call else {
+            unreachable!()
+        };
+        let [a, b, c, d] = [a, b, c, d].map(number);
+        let Outcome { table, answer } = made(t, words, letter, a, b, c, d);
         words::say(output, answer)?;
-        words::state(output, u)?;
-        t = u;
-        i = next;
+        words::state(output, table)?;
+        t = table;
     }
     Ok(())
 }

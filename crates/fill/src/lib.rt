@@ -1,80 +1,76 @@
 // The actions of a Fill: the primary's slot, then the replica's.
 #![tactic(auto)]
 
-ghost use Rattle.std.specs.Prelude.{◌≡◌};
-ghost use Rattle.table.specs.declared.Then.TheVariants.{ToFillCopy};
-ghost use Rattle.table.specs.declared.Place.TheVariants.{FillCopy};
+ghost use Rattle.std.specs.Prelude.{◌≡◌, ◌+◌, ◌^◌, ◌<◌, Some};
+ghost use Rattle.machine.specs.Words.{slot_at};
+ghost use Rattle.machine.specs.Entries.{pending_with};
 ghost use Rattle.machine.specs.Deeds.{acted};
-ghost use Rattle.machine.specs.Look.{look_ahead};
 ghost use Rattle.machine.specs.Fill.{fill_write_of, fill_copy_of};
 
-use table::{Copied, Deed, Look, Marks, Object, Operand, Pending, Place, Refusal, Replica, Then};
+use table::{Deed, Making, Marks, Operand, Place, Primary, Refusal, Replica, Slot, Then};
 
-// A Fill whose value is known: a non-nil pointer is looked at.
-#[tactic(auto, using(machine::proofs::Rules::tests))]
-fn fill_ahead(v: Operand) -> Place
-    ensures { result ≡ look_ahead v ToFillCopy FillCopy }
+// The slot that the next Fill writes.
+fn next_slot(making: Making) -> Slot
+    ensures { result ≡ slot_at making.at making.filled }
 {
-    match v {
-        Operand::Plain(w) => Place::FillCopy(Copied::Same(w)),
-        Operand::Pointer(p) => {
-            if p.0 == 0 {
-                return Place::FillCopy(Copied::Renamed(Replica(0)));
-            }
-            Place::Looking(p, Then::ToFillCopy)
-        }
+    Slot {
+        object: making.at,
+        index: making.filled,
+    }
+}
+
+// One slot more is filled.
+fn counted(making: Making) -> Making
+    requires { making.filled + 1 < 2 ^ 32 }
+    ensures { Some result ≡ pending_with making.at making.register making.len (making.filled + 1) }
+{
+    Making {
+        filled: making.filled + 1,
+        ..making
     }
 }
 
 // Fill: the next slot of the pending object is written; off, it counts and the Fill ends.
-#[tactic(auto, using(machine::proofs::Rules::tests), unfolding(machine::specs::Fill::fill_write_of))]
+#[tactic(auto, unfolding(machine::specs::Fill::fill_write_of, look::specs::Slots::written_of))]
 pub fn fill_write(
     on: bool,
     m: Marks,
     words: &mut [u32],
     s: u32,
-    pending: Pending,
-    v: Operand,
+    pending: Option<Making>,
+    v: Operand<Primary>,
 ) -> Deed
     ensures { acted result words.new ≡ fill_write_of on m words.old s pending v }
 {
-    let Pending::Making(p, r, len, f) = pending else {
+    let Some(making) = pending else {
         return Deed::Fails(Refusal::Damaged);
     };
-    let o = objects::object_at(words, s, p);
-    let Object::Whole(l, _) = o else {
-        return Deed::Fails(Refusal::Damaged);
-    };
-    if l <= f {
+    if !look::write_slot(words, s, next_slot(making), v) {
         return Deed::Fails(Refusal::Damaged);
     }
-    let w = objects::operand_word(v);
-    let at = p.0 as usize;
-    words[at + (f as usize)] = w;
     if on {
-        let next = fill_ahead(v);
-        return Deed::Goes(m, next);
+        return Deed::Goes(m, look::ahead(v, Then::ToFillCopy));
     }
-    Deed::EndsWith(m, Pending::Making(p, r, len, f + 1))
+    Deed::EndsWith(m, Some(counted(making)))
 }
 
 // Fill: the slot of the replica is written, and counted; then pay k.
-#[tactic(auto, using(machine::proofs::Rules::tests, objects::proofs::Unforwarded::unforwarded), unfolding(machine::specs::Fill::fill_copy_of))]
-pub fn fill_copy(m: Marks, words: &mut [u32], s: u32, k: u32, pending: Pending, c: Copied) -> Deed
+#[tactic(auto, unfolding(machine::specs::Fill::fill_copy_of, look::specs::Slots::copied_of))]
+pub fn fill_copy(
+    m: Marks,
+    words: &mut [u32],
+    s: u32,
+    k: u32,
+    pending: Option<Making>,
+    c: Operand<Replica>,
+) -> Deed
     ensures { acted result words.new ≡ fill_copy_of m words.old s k pending c }
 {
-    let Pending::Making(p, r, len, f) = pending else {
+    let Some(making) = pending else {
         return Deed::Fails(Refusal::Damaged);
     };
-    let seen = objects::look_at(words, s, p);
-    let Look::Forwarded(q, l) = seen else {
-        return Deed::Fails(Refusal::Damaged);
-    };
-    if l <= f {
+    if !look::write_copy(words, s, next_slot(making), c) {
         return Deed::Fails(Refusal::Damaged);
     }
-    let w = objects::copied_word(c);
-    let at = q.0 as usize;
-    words[at + (f as usize)] = w;
-    Deed::GoesWith(m, Pending::Making(p, r, len, f + 1), Place::Take(k))
+    Deed::GoesWith(m, Some(counted(making)), Place::Take(k))
 }

@@ -6,120 +6,86 @@ ghost use Rattle.machine.specs.Basics.{first_of};
 ghost use Rattle.machine.specs.Words.{end_of};
 ghost use Rattle.machine.specs.Bounds.{Fits};
 ghost use Rattle.machine.specs.Entries.{ends};
-ghost use Rattle.machine.specs.Flip.{empty_space, unasked, unasked_entry, flip_end, flip_of};
+ghost use Rattle.machine.specs.Flip.{went, empty_space, unasked, unasked_entry, passes_of, flip_of};
+ghost use Rattle.flip.specs.Spaced.{Spaced};
 
-use table::{Answer, Marks, Outcome, Pass, Place, Table, Task};
+use table::{Answer, Marks, Outcome, Place, Refusal, Table, Task};
+use visits::Space;
 
 // A New that stood waiting goes on in the collecting rules.
 #[tactic(auto, unfolding(machine::specs::Flip::unasked))]
-fn unasked_place(place: Place) -> Place
+fn unasked(place: Place) -> Place
     ensures { result ≡ unasked place }
 {
     match place {
-        Place::Idle => place,
-        Place::New(_, _, _) => place,
-        Place::Asked(r, len, m) => Place::New(r, len, m),
-        Place::FillWrite(_) => place,
-        Place::FillCopy(_) => place,
-        Place::StoreWrite(_) => place,
-        Place::Meet(_) => place,
-        Place::StoreCopy(_) => place,
-        Place::Take(_) => place,
-        Place::Read(_, _, _) => place,
-        Place::Put(_, _, _, _) => place,
-        Place::Release(_, _, _) => place,
-        Place::Looking(_, _) => place,
-        Place::Placing(_, _) => place,
+        Place::Asked(want) => Place::New(want),
+        _ => place,
     }
 }
 
-#[tactic(auto, unfolding(machine::specs::Flip::unasked_entry))]
-fn unasked_entry(e: Task) -> Task
-    ensures { result ≡ unasked_entry e }
-{
-    let place = e.place;
-    let next = unasked_place(place);
-    Task { place: next, ..e }
-}
-
-#[tactic(auto, using(crate::proofs::Renewed::none_new, crate::proofs::Renewed::one_more_lem, crate::proofs::Renewed::all_new))]
+// The entries of the first p tasks made new; those behind them stay in the array.
 fn unasked_tasks(tasks: [Task; 8], p: usize) -> [Task; 8]
     requires { p ≤ 8 }
     ensures { result ≡ first_of p unasked_entry tasks }
 {
     let mut u = tasks;
-    let mut i: usize = 0;
-    while i < p {
-        let e = tasks[i];
-        let x = unasked_entry(e);
-        u[i] = x;
-        i = i + 1;
+    for e in u[..p].iter_mut() {
+        e.place = unasked(e.place);
     }
     u
 }
 
-// The space to come, all of it free.
+// The space to come, all of it free. (The half is a plain number: see crates/gates.)
 #[tactic(auto, unfolding(machine::specs::Words::end_of))]
 fn empty_space(upper: bool, h: u32) -> Marks
     requires { h ≤ 8190 }
     ensures { (result ≡ empty_space upper h) × Fits result (end_of (not upper) h) (2 + 2 * h) }
 {
-    let a = gates::bottom_of(!upper, h);
-    let top = gates::end_of(!upper, h);
     Marks {
-        a: a,
-        top: top,
+        a: gates::bottom_of(!upper, h),
+        top: gates::end_of(!upper, h),
         j: 0,
         copies: 0,
     }
 }
 
-// The table after the passes: collecting in the other space, or as it came, but dead.
-fn finished(t: Table, v: Pass) -> Outcome
-    requires { t.limits.p ≤ 8 }
-    ensures { result ≡ flip_end t v }
-{
-    match v {
-        Pass::On(m) => {
-            let l = t.limits;
-            let ts = t.tasks;
-            let us = unasked_tasks(ts, l.p as usize);
-            Outcome {
-                table: Table {
-                    upper: !t.upper,
-                    on: true,
-                    marks: m,
-                    tasks: us,
-                    ..t
-                },
-                answer: Answer::Moved,
-            }
-        }
-        Pass::Stopped(x) => entries::refused(t, x),
-    }
-}
-
-#[tactic(auto, unfolding(machine::specs::Flip::flip_of, machine::specs::Flip::passes_of))]
-pub fn flip(t: Table, words: &mut [u32]) -> Outcome
-    requires { (t.limits.p ≤ 8) × (t.limits.s ≤ 255) × (t.limits.h ≤ 8190) × (length words.old ≡ 2 + 2 * t.limits.h) }
-    ensures { ends result words.new ≡ flip_of t words.old }
+// What the three passes leave of the space to come.
+#[tactic(auto, unfolding(machine::specs::Flip::passes_of))]
+fn passes(t: &Table, words: &mut [u32]) -> Result<Marks, Refusal>
+    requires { Spaced t.now.limits (length words.old) }
+    ensures { went result words.new ≡ passes_of t.now words.old }
 {
     let l = t.limits;
-    let s = l.s;
-    let h = l.h;
-    let p = l.p as usize;
-    let qs = t.roots;
-    let ts = t.tasks;
-    let m = empty_space(t.upper, h);
-    let end = gates::end_of(!t.upper, h);
-    let v = visits::pendings(m, words, end, s, p, ts);
-    let Pass::On(g) = v else {
-        return finished(t, v);
+    let tasks = &t.tasks[..l.p as usize];
+    let mut space = Space {
+        words,
+        s: l.s,
+        end: gates::end_of(!t.upper, l.h),
+        marks: empty_space(t.upper, l.h),
     };
-    let w = visits::roots(g, words, end, s, qs);
-    let Pass::On(k) = w else {
-        return finished(t, w);
-    };
-    let x = visits::registers(k, words, end, s, p, ts);
-    finished(t, x)
+    space.pendings(tasks)?;
+    space.roots(&t.roots)?;
+    space.registers(tasks)?;
+    Ok(space.marks)
+}
+
+// Collecting in the other space; or the table as it came, but dead.
+#[tactic(auto, unfolding(machine::specs::Flip::flip_of))]
+pub fn flip(t: Table, words: &mut [u32]) -> Outcome
+    requires { Spaced t.limits (length words.old) }
+    ensures { ends result words.new ≡ flip_of t words.old }
+{
+    match passes(&t, words) {
+        Ok(marks) => Outcome {
+            table: Table {
+                upper: !t.upper,
+                on: true,
+                marks,
+                tasks: unasked_tasks(t.tasks, t.limits.p as usize),
+                ..t
+            },
+            answer: Answer::Moved,
+        },
+        Err(x) => entries::refused(t, x),
+    }
 }

@@ -8,60 +8,31 @@ ghost use Rattle.machine.specs.Bounds.{Limited, Sized, Fits, Opened, Admitted, P
 ghost use Rattle.machine.specs.Begin.{new_ok};
 ghost use Rattle.machine.specs.Gate.{limits_ok, sizes_ok, marks_ok, gate_of, task_gate_of, pair_gate_of};
 
-use table::{Gate, Life, Limits, Marks, Refusal};
+use table::{Life, Limits, Marks, Refusal, Table, Wanted};
 
-#[tactic(auto, using(machine::proofs::Rules::tests), unfolding(machine::specs::Gate::limits_ok))]
+#[tactic(auto, unfolding(machine::specs::Gate::limits_ok))]
 pub fn limits_ok(l: Limits) -> bool
     ensures { (result ≡ limits_ok l) × When result (Limited l) }
 {
-    let p = l.p;
-    let s = l.s;
-    let h = l.h;
-    let k = l.k;
-    if p < 1 {
+    if l.p < 1 || 8 < l.p || l.s < 1 || 255 < l.s {
         return false;
     }
-    if 8 < p {
+    if l.h < 64 || 8190 < l.h {
         return false;
     }
-    if s < 1 {
-        return false;
-    }
-    if 255 < s {
-        return false;
-    }
-    if h < 64 {
-        return false;
-    }
-    if 8190 < h {
-        return false;
-    }
-    if k < 1 {
-        return false;
-    }
-    if 16 < k {
-        return false;
-    }
-    true
+    !(l.k < 1 || 16 < l.k)
 }
 
 // The limits, and a buffer of exactly 2+2H words.
-#[tactic(auto, using(machine::proofs::Rules::tests), unfolding(machine::specs::Gate::sizes_ok))]
+#[tactic(auto, unfolding(machine::specs::Gate::sizes_ok))]
 pub fn sizes_ok(l: Limits, n: usize) -> bool
     ensures { (result ≡ sizes_ok l n) × When result (Sized l n) }
 {
-    let ok = limits_ok(l);
-    if ok {
-        let h = l.h as usize;
-        if n == 2 + 2 * h {
-            return true;
-        }
-        return false;
-    }
-    false
+    limits_ok(l) && n == 2 + 2 * l.h as usize
 }
 
-// The first word of the space in use.
+// The first word of the space in use. (The half is a plain number, as in a table that anybody may hand in: a caller shows its
+// bound, and no type narrows it.)
 #[tactic(auto, unfolding(machine::specs::Words::bottom_of))]
 pub fn bottom_of(upper: bool, h: u32) -> u32
     requires { h ≤ 8190 }
@@ -83,124 +54,63 @@ pub fn end_of(upper: bool, h: u32) -> u32
 }
 
 // The table's numbers can be.
-#[tactic(auto, using(machine::proofs::Rules::tests), unfolding(machine::specs::Gate::marks_ok))]
+#[tactic(auto, unfolding(machine::specs::Gate::marks_ok))]
 pub fn marks_ok(l: Limits, upper: bool, m: Marks) -> bool
     requires { Limited l }
     ensures { (result ≡ marks_ok l upper m) × When result ((bottom_of upper l.h ≤ m.a) × Fits m (end_of upper l.h) (2 + 2 * l.h)) }
 {
-    let p = l.p;
-    let h = l.h;
-    let a = m.a;
-    let top = m.top;
-    let j = m.j;
-    let copies = m.copies;
-    let bottom = bottom_of(upper, h);
-    let end = end_of(upper, h);
-    if a < bottom {
-        return false;
-    }
-    if end < top {
-        return false;
-    }
-    if top < a {
-        return false;
-    }
-    if top - a < j {
-        return false;
-    }
-    if p < j {
-        return false;
-    }
-    if h < copies {
-        return false;
-    }
-    true
+    let bottom = bottom_of(upper, l.h);
+    let end = end_of(upper, l.h);
+    !(m.a < bottom
+        || end < m.top
+        || m.top < m.a
+        || m.top - m.a < m.j
+        || l.p < m.j
+        || l.h < m.copies)
 }
 
-#[tactic(auto, using(machine::proofs::Rules::tests), unfolding(machine::specs::Gate::gate_of))]
-pub fn gate(l: Limits, life: Life, upper: bool, m: Marks, n: usize) -> Gate
-    ensures { (result ≡ gate_of l life upper m n) × Opened result l upper m n }
+#[tactic(auto, unfolding(machine::specs::Gate::gate_of))]
+pub fn gate(t: &Table, n: usize) -> Result<(), Refusal>
+    ensures { (result ≡ gate_of t.now.limits t.now.life t.now.upper t.now.marks n) × Opened result t.now.limits t.now.upper t.now.marks n }
 {
-    let sized = sizes_ok(l, n);
-    if sized {
-        match life {
-            Life::Living => {
-                let ok = marks_ok(l, upper, m);
-                if ok {
-                    return Gate::Open;
-                }
-                return Gate::Shut(Refusal::Damaged);
-            }
-            Life::Spent => {
-                return Gate::Shut(Refusal::Exhausted);
-            }
-            Life::Broken => {
-                return Gate::Shut(Refusal::Damaged);
-            }
-        }
+    if !sizes_ok(t.limits, n) {
+        return Err(Refusal::WrongLimit);
     }
-    Gate::Shut(Refusal::WrongLimit)
+    match t.life {
+        Life::Living if marks_ok(t.limits, t.upper, t.marks) => Ok(()),
+        Life::Spent => Err(Refusal::Exhausted),
+        _ => Err(Refusal::Damaged),
+    }
 }
 
-#[tactic(auto, using(machine::proofs::Rules::tests), unfolding(machine::specs::Gate::task_gate_of))]
-pub fn task_gate(l: Limits, life: Life, upper: bool, m: Marks, n: usize, task: u32) -> Gate
-    ensures { (result ≡ task_gate_of l life upper m n task) × Admitted result l upper m n task }
+#[tactic(auto, unfolding(machine::specs::Gate::task_gate_of))]
+pub fn task_gate(t: &Table, n: usize, task: u32) -> Result<(), Refusal>
+    ensures { (result ≡ task_gate_of t.now.limits t.now.life t.now.upper t.now.marks n task) × Admitted result t.now.limits t.now.upper t.now.marks n task }
 {
-    let p = l.p;
-    let g = gate(l, life, upper, m, n);
-    match g {
-        Gate::Open => {
-            if task < p {
-                return Gate::Open;
-            }
-            Gate::Shut(Refusal::NoTask)
-        }
-        Gate::Shut(x) => Gate::Shut(x),
+    gate(t, n)?;
+    if task < t.limits.p {
+        Ok(())
+    } else {
+        Err(Refusal::NoTask)
     }
 }
 
 // The same for a call with two registers or roots.
-#[tactic(auto, using(machine::proofs::Rules::tests), unfolding(machine::specs::Gate::pair_gate_of))]
-pub fn pair_gate(
-    l: Limits,
-    life: Life,
-    upper: bool,
-    m: Marks,
-    n: usize,
-    task: u32,
-    a: u32,
-    b: u32,
-) -> Gate
-    ensures { (result ≡ pair_gate_of l life upper m n task a b) × Paired result l upper m n task a b }
+#[tactic(auto, unfolding(machine::specs::Gate::pair_gate_of))]
+pub fn pair_gate(t: &Table, n: usize, task: u32, a: u32, b: u32) -> Result<(), Refusal>
+    ensures { (result ≡ pair_gate_of t.now.limits t.now.life t.now.upper t.now.marks n task a b) × Paired result t.now.limits t.now.upper t.now.marks n task a b }
 {
-    let g = task_gate(l, life, upper, m, n, task);
-    match g {
-        Gate::Open => {
-            if 7 < a {
-                return Gate::Shut(Refusal::NoRegister);
-            }
-            if 7 < b {
-                return Gate::Shut(Refusal::NoRegister);
-            }
-            Gate::Open
-        }
-        Gate::Shut(x) => Gate::Shut(x),
+    task_gate(t, n, task)?;
+    if 7 < a || 7 < b {
+        return Err(Refusal::NoRegister);
     }
+    Ok(())
 }
 
 // What a New may ask for: a register up to 7, L up to S, m up to L.
-#[tactic(auto, using(machine::proofs::Rules::tests), unfolding(machine::specs::Begin::new_ok))]
-pub fn new_ok(s: u32, r: u32, len: u32, m: u32) -> bool
-    ensures { (result ≡ new_ok s r len m) × When result ((r < 8) × (len ≤ s) × (m ≤ len)) }
+#[tactic(auto, unfolding(machine::specs::Begin::new_ok))]
+pub fn new_ok(s: u32, w: Wanted) -> bool
+    ensures { (result ≡ new_ok s w.register w.len w.m) × When result ((w.register < 8) × (w.len ≤ s) × (w.m ≤ w.len)) }
 {
-    if 7 < r {
-        return false;
-    }
-    if s < len {
-        return false;
-    }
-    if len < m {
-        return false;
-    }
-    true
+    !(7 < w.register || s < w.len || w.len < w.m)
 }

@@ -6,114 +6,63 @@ use heap::Table;
 use std::io;
 use std::io::{Read, Write};
 
-// How much of the input's buffer is an unfinished line, how much of the output's is in use, whether the line that is
-// being read has outgrown the buffer, and the heap's table.
+// What a run of the program has: the words and the output's buffer that are lent it, how much of the input's buffer is
+// an unfinished line, how much of the output's is in use, whether the line that is being read has outgrown the buffer,
+// and the heap's table. Nothing is allocated: a buffer is lent whole, so how much of it is in use stands beside it. `have` and
+// `skip` go to `next_block` as they are: its clauses speak of both.
 #[derive(Drop)]
-pub struct State {
+pub struct Run<'a> {
+    pub words: &'a mut [u32],
+    pub out: &'a mut [u8],
     pub have: usize,
     pub used: usize,
     pub skip: bool,
     pub table: Table,
+    ghost all_words: { 16382 ≤ length words.now },
+    ghost room_to_write: { 64 ≤ length out.now },
+    ghost in_use: { used ≤ length out.now },
 }
 
-#[derive(Drop)]
-pub struct Turn {
-    pub more: bool,
-    pub state: State,
-}
-
-// After the lines of a block: where the unfinished one begins, the output in use.
-#[derive(Drop)]
-pub struct Lines {
-    pub from: usize,
-    pub used: usize,
-    pub skip: bool,
-    pub table: Table,
-}
-
-// The next block. Where it cannot be read, the answers that wait are written before the error is passed on.
-fn block_or_flush<R: Read, W: Write>(
-    input: &mut R,
-    output: &mut W,
-    s: &State,
-    buf: &mut [u8],
-    out: &[u8],
-) -> io::Result<Block>
-    requires { (s.now.have < length buf.old) × (s.now.used ≤ length out.now) }
-    ensures { IfOk result (λ block. block.n ≤ length buf.old) }
-{
-    match blocks::next_block(input, buf, s.have, s.skip) {
-        Ok(block) => Ok(block),
-        Err(e) => {
-            blocks::flush(output, out, s.used)?;
-            Err(e)
+impl Run<'_> {
+    // The next block. Where it cannot be read, the answers that wait are written before the error is passed on.
+    fn next_block<R: Read, W: Write>(
+        &self,
+        input: &mut R,
+        output: &mut W,
+        buf: &mut [u8],
+    ) -> io::Result<Block>
+        requires { self.now.have < length buf.old }
+        ensures { IfOk result (λ block. block.n ≤ length buf.old) }
+    {
+        let block = blocks::next_block(input, buf, self.have, self.skip);
+        if block.is_err() {
+            blocks::flush(output, &self.out[..self.used])?;
         }
+        block
     }
-}
 
-// A block read and answered. An error is that of the read or the write that failed; what was written before it stays.
-fn one_turn<R: Read, W: Write>(
-    input: &mut R,
-    output: &mut W,
-    s: State,
-    words: &mut [u32],
-    buf: &mut [u8],
-    out: &mut [u8],
-) -> io::Result<Turn>
-    requires { (16382 ≤ length words.old) × (s.have < length buf.old) × (s.used ≤ length out.old) × (64 ≤ length out.old) }
-    ensures { IfOk result (λ turn. (turn.state.have < length buf.old) × (turn.state.used ≤ length out.old)) }
-{
-    let i = block_or_flush(input, output, &s, buf, out)?;
-    let n = i.n;
-    let l = crate::calls::all_lines(output, words, buf, n, out, s)?;
-    let from = l.from;
-    let used = l.used;
-    let skip = l.skip;
-    let t = l.table;
-    if i.last {
-        blocks::flush(output, out, used)?;
-        return Ok(Turn {
-            more: false,
-            state: State {
-                have: 0,
-                used: 0,
-                skip: false,
-                table: t,
-            },
-        });
+    // A block read and answered, and whether the input goes on. An error is that of the read or the write that failed;
+    // what was written before it stays.
+    fn turn<R: Read, W: Write>(
+        &mut self,
+        input: &mut R,
+        output: &mut W,
+        buf: &mut [u8],
+    ) -> io::Result<bool>
+        requires { self.old.have < length buf.old }
+        ensures { IfOk result (λ goes_on. self.new.have < length buf.old) }
+    {
+        let Block { last, n } = self.next_block(input, output, buf)?;
+        let left = self.answer_lines(output, &buf[..n])?;
+        if last {
+            blocks::flush(output, &self.out[..self.used])?;
+            return Ok(false);
+        }
+        let left = blocks::to_front(buf, n - left, n);
+        self.skip = self.skip || buf.len() <= left;
+        self.have = if self.skip { 0 } else { left };
+        Ok(true)
     }
-    if skip {
-        return Ok(Turn {
-            more: true,
-            state: State {
-                have: 0,
-                used: used,
-                skip: true,
-                table: t,
-            },
-        });
-    }
-    let left = blocks::to_front(buf, from, n);
-    if buf.len() <= left {
-        return Ok(Turn {
-            more: true,
-            state: State {
-                have: 0,
-                used: used,
-                skip: true,
-                table: t,
-            },
-        });
-    }
-    Ok(Turn {
-        more: true,
-        state: State {
-            have: left,
-            used: used,
-            skip: false,
-            table: t,
-        },
-    })
 }
 
 // Nothing says that the input ends, so the turns are counted, up to a number that no run reaches. An error is a turn's.
@@ -126,19 +75,17 @@ pub fn all_turns<R: Read, W: Write>(
 ) -> io::Result<()>
     requires { (16382 ≤ length words.old) × (1 ≤ length buf.old) × (64 ≤ length out.old) }
 {
-    let t = heap::unset();
-    let mut u = State {
+    let mut run = Run {
+        words,
+        out,
         have: 0,
         used: 0,
         skip: false,
-        table: t,
+        table: heap::unset(),
     };
     for _ in 0..u64::MAX {
-        let r = one_turn(input, output, u, words, buf, out)?;
-        let v = r.state;
-        u = v;
-        if !r.more {
-            return Ok(());
+        if !run.turn(input, output, buf)? {
+            break;
         }
     }
     Ok(())

@@ -2,74 +2,63 @@
 #![tactic(auto)]
 
 ghost use Rattle.std.specs.Prelude.{◌≡◌};
+ghost use Rattle.machine.specs.Complete.{load_of};
 ghost use Rattle.machine.specs.Entries.{ends};
 ghost use Rattle.machine.specs.Call.{Call};
 ghost use Rattle.machine.specs.Calls.{Meets};
+ghost use Rattle.entries.specs.Answered.{answered};
 ghost use Rattle.load.specs.Slot.{loaded_of};
 
-use table::{Answer, Gate, Object, Outcome, Primary, Refusal, Table};
+use table::{Answer, Operand, Outcome, Primary, Refusal, Table};
 
-// What a slot holds, or why it cannot be read.
-#[derive(Drop)]
-pub enum Loaded {
-    Pointer(Primary),
-    Word(u32),
-    Denied(Refusal),
-}
-
-// A slot of the object at p.
-#[tactic(auto, using(machine::proofs::Rules::tests), unfolding(crate::specs::Slot::loaded_of))]
-fn load_slot(words: &[u32], s: u32, p: Primary, slot: u32) -> Loaded
+// What a slot of the object at p holds. (The choice of a kind stands in `read` of crates/pay too: a function for it would need a
+// definition of its own and four parameters for its two arms.)
+#[tactic(auto, unfolding(crate::specs::Slot::loaded_of))]
+fn slot_at(words: &[u32], s: u32, p: Primary, slot: u32) -> Result<Operand<Primary>, Refusal>
     ensures { result ≡ loaded_of words.now s p slot }
 {
-    let at = p.0;
-    if at == 0 {
-        return Loaded::Denied(Refusal::NilObject);
+    if p == Primary(0) {
+        return Err(Refusal::NilObject);
     }
-    let o = objects::object_at(words, s, p);
-    let Object::Whole(len, m) = o else {
-        return Loaded::Denied(Refusal::Damaged);
-    };
-    if len <= slot {
-        return Loaded::Denied(Refusal::NoSlot);
+    let o = objects::object_at(words, s, p).ok_or(Refusal::Damaged)?;
+    if o.len <= slot {
+        return Err(Refusal::NoSlot);
     }
-    let v = words[(at as usize) + (slot as usize)];
-    if slot < m {
-        return Loaded::Pointer(Primary(v));
-    }
-    Loaded::Word(v)
+    let w = words[p.0 as usize + slot as usize];
+    Ok(if slot < o.m {
+        Operand::Pointer(Primary(w))
+    } else {
+        Operand::Plain(w)
+    })
 }
 
 // A slot of the object in register `from`; a pointer goes to register `to`.
-#[tactic(auto, using(opening::proofs::Opens::admitted, opening::proofs::Opens::by_opening, crate::proofs::Given::load_given), unfolding(machine::specs::Complete::load_of, machine::specs::Entries::with_register, machine::specs::Entries::with_task))]
+#[tactic(auto, using(opening::proofs::Opens::by_opening, crate::proofs::Given::load_given), unfolding(machine::specs::Complete::load_of, machine::specs::Entries::with_register, machine::specs::Entries::with_task))]
+fn loaded(
+    t: &mut Table,
+    words: &[u32],
+    task: u32,
+    to: u32,
+    from: u32,
+    slot: u32,
+) -> Result<Answer, Refusal>
+    ensures { answered t.new result ≡ load_of t.old words.now task to from slot }
+{
+    let mut e = opening::turn(t, words.len(), task, to, from)?;
+    match slot_at(words, t.limits.s, e.regs[from as usize], slot)? {
+        Operand::Pointer(q) => {
+            e.regs[to as usize] = q;
+            t.tasks[task as usize] = e;
+            Ok(Answer::Done)
+        }
+        Operand::Plain(w) => Ok(Answer::Value(w)),
+    }
+}
+
 pub fn load(t: Table, words: &[u32], task: u32, to: u32, from: u32, slot: u32) -> Outcome
     ensures { Meets (Call.Load task to from slot) t words.now (ends result words.now) }
 {
     let mut u = t;
-    let i = (task % 8) as usize;
-    let e = u.tasks[i];
-    let l = u.limits;
-    let life = u.life;
-    let m = u.marks;
-    let g = opening::turn_gate(l, life, u.upper, m, words.len(), task, to, from, e);
-    if let Gate::Shut(x) = g {
-        return entries::refused(u, x);
-    }
-    let p = entries::register(e, from as usize);
-    let v = load_slot(words, l.s, p, slot);
-    match v {
-        Loaded::Pointer(q) => {
-            let f = entries::with_register(e, to as usize, q);
-            u.tasks[i] = f;
-            Outcome {
-                table: u,
-                answer: Answer::Done,
-            }
-        }
-        Loaded::Word(w) => Outcome {
-            table: u,
-            answer: Answer::Value(w),
-        },
-        Loaded::Denied(x) => entries::refused(u, x),
-    }
+    let answer = loaded(&mut u, words, task, to, from, slot);
+    entries::answered(u, answer)
 }

@@ -1,25 +1,44 @@
-// Look and place, each once, with what follows as data.
+// Look and place, each once, with what follows as data; and the slots of an object and of its replica written.
 #![tactic(auto)]
 
-ghost use Rattle.std.specs.Prelude.{◌≡◌, ◌+◌, ◌≤◌, length};
-ghost use Rattle.machine.specs.Words.{laid};
+ghost use Rattle.std.specs.Prelude.{◌≡◌, ◌+◌, ◌≤◌, ◌<◌, length};
+ghost use Rattle.machine.specs.Basics.{When};
+ghost use Rattle.machine.specs.Words.{copied_word, laid, operand_word};
 ghost use Rattle.machine.specs.Bounds.{Fits, Reaches, Roomy};
 ghost use Rattle.machine.specs.Deeds.{acted};
-ghost use Rattle.machine.specs.Look.{go_on, unplaced_case, look_step_of, placed_in, place_of, place_step_of};
+ghost use Rattle.machine.specs.Look.{go_on, look_ahead, unplaced_case, look_step_of, placed_in, place_of, place_step_of};
+ghost use Rattle.look.specs.Ahead.{known};
+ghost use Rattle.look.specs.Slots.{copied_of, written_in, written_of};
 
-use table::{
-    Copied, Deed, Look, Marks, Object, Place, Placed, Primary, Refusal, Replica, Sought, Then,
-};
+use table::{Deed, Look, Marks, Operand, Place, Primary, Refusal, Replica, Slot, Sought, Then};
+
+// What follows, now that the value's word in a replica is known.
+fn known(then: Then, c: Operand<Replica>) -> Place
+    ensures { result ≡ known then c }
+{
+    match then {
+        Then::ToWrite(v) => Place::StoreWrite(v),
+        Then::ToStoreCopy => Place::StoreCopy(c),
+        Then::ToFillCopy => Place::FillCopy(c),
+        Then::ToPut(n, job) => Place::Put(n, job, c),
+    }
+}
 
 // What follows, now that the replica is known.
 pub fn go_on(then: Then, r: Replica) -> Place
     ensures { result ≡ go_on then r }
 {
-    match then {
-        Then::ToWrite(v) => Place::StoreWrite(v),
-        Then::ToStoreCopy => Place::StoreCopy(Copied::Renamed(r)),
-        Then::ToFillCopy => Place::FillCopy(Copied::Renamed(r)),
-        Then::ToPut(n, x, i) => Place::Put(n, x, i, Copied::Renamed(r)),
+    known(then, Operand::Pointer(r))
+}
+
+// The place of a task whose value is known: only a non-nil pointer is looked at.
+pub fn ahead(v: Operand<Primary>, then: Then) -> Place
+    ensures { result ≡ look_ahead v then (known then) }
+{
+    match v {
+        Operand::Plain(w) => known(then, Operand::Plain(w)),
+        Operand::Pointer(Primary(0)) => go_on(then, Replica(0)),
+        Operand::Pointer(p) => Place::Looking(p, then),
     }
 }
 
@@ -30,26 +49,23 @@ fn unplaced(m: Marks, words: &mut [u32], s: u32, p: Primary, then: Then, k: Look
 {
     match k {
         Look::White(_) => {
-            let at = p.0 as usize;
-            words[at - 1] = 1;
+            words[p.0 as usize - 1] = 1;
             Deed::Goes(m, Place::Placing(p, then))
         }
         Look::Claimed => Deed::Waits(Sought::Claimer(p)),
-        Look::Forwarded(_, _) => Deed::Fails(Refusal::Damaged),
-        Look::Lost => Deed::Fails(Refusal::Damaged),
+        Look::Forwarded(_, _) | Look::Lost => Deed::Fails(Refusal::Damaged),
     }
 }
 
-#[tactic(auto, using(objects::proofs::Unforwarded::unforwarded), unfolding(machine::specs::Look::look_step_of))]
+#[tactic(auto, unfolding(machine::specs::Look::look_step_of))]
 pub fn look_step(m: Marks, words: &mut [u32], s: u32, p: Primary, then: Then) -> Deed
     ensures { acted result words.new ≡ look_step_of m words.old s p then }
 {
-    let k = objects::look_at(words, s, p);
-    let Look::Forwarded(r, _) = k else {
-        return unplaced(m, words, s, p, then, k);
+    let seen = objects::look_at(words, s, p);
+    let Look::Forwarded(r, _) = seen else {
+        return unplaced(m, words, s, p, then, seen);
     };
-    let next = go_on(then, r);
-    Deed::Goes(m, next)
+    Deed::Goes(m, go_on(then, r))
 }
 
 // An object's two words before its slots.
@@ -63,50 +79,34 @@ pub fn lay(words: &mut [u32], at: usize, d: u32, h: u32)
 
 // A replica of the object at p is claimed, with its descriptor and the count of slots to copy; the primary is forwarded,
 // and pushed where there are slots to copy.
-#[tactic(auto, using(machine::proofs::Rules::tests, crate::proofs::Laid::below_laid), unfolding(machine::specs::Look::place_of))]
-pub fn place(m: Marks, end: u32, words: &mut [u32], p: Primary, len: u32, count: u32) -> Placed
+#[tactic(auto, unfolding(machine::specs::Look::place_of))]
+pub fn place(
+    m: Marks,
+    end: u32,
+    words: &mut [u32],
+    p: Primary,
+    len: u32,
+    count: u32,
+) -> Option<(Marks, Replica)>
     requires { Fits m end (length words.old) × (4 ≤ p.0) × (p.0 ≤ length words.old) × (len ≤ 255) }
     ensures { (placed_in result words.new ≡ place_of m end words.old p len count) × Roomy result end (length words.old) }
 {
-    let a = m.a;
-    let top = m.top;
-    let j = m.j;
-    let copies = m.copies;
     let at = p.0 as usize;
     let d = words[at - 2];
+    let need = if count == 0 { len + 2 } else { len + 3 };
+    if !objects::room_for(true, m, end, need) {
+        return None;
+    }
+    lay(words, m.a as usize, d, count);
+    let r = Replica(m.a + 2);
+    words[at - 1] = r.0;
+    let a = m.a + (len + 2);
     if count == 0 {
-        let room = objects::room_for(true, m, end, len + 2);
-        if room {
-            lay(words, a as usize, d, 0);
-            words[at - 1] = a + 2;
-            return Placed::Twin(
-                Marks {
-                    a: a + (len + 2),
-                    top: top,
-                    j: j,
-                    copies: copies,
-                },
-                Replica(a + 2),
-            );
-        }
-        return Placed::Full;
+        return Some((Marks { a, ..m }, r));
     }
-    let room = objects::room_for(true, m, end, len + 3);
-    if room {
-        lay(words, a as usize, d, count);
-        words[at - 1] = a + 2;
-        words[top as usize - 1] = p.0;
-        return Placed::Twin(
-            Marks {
-                a: a + (len + 2),
-                top: top - 1,
-                j: j,
-                copies: copies,
-            },
-            Replica(a + 2),
-        );
-    }
-    Placed::Full
+    let top = m.top - 1;
+    words[top as usize] = p.0;
+    Some((Marks { a, top, ..m }, r))
 }
 
 #[tactic(auto, unfolding(machine::specs::Look::place_step_of))]
@@ -114,14 +114,42 @@ pub fn place_step(m: Marks, end: u32, words: &mut [u32], s: u32, p: Primary, the
     requires { Fits m end (length words.old) × (s ≤ 255) }
     ensures { acted result words.new ≡ place_step_of m end words.old s p then }
 {
-    let o = objects::object_at(words, s, p);
-    let Object::Whole(len, _) = o else {
+    let Some(o) = objects::object_at(words, s, p) else {
         return Deed::Fails(Refusal::Damaged);
     };
-    let x = place(m, end, words, p, len, len);
-    let Placed::Twin(next, r) = x else {
+    let Some((next, r)) = place(m, end, words, p, o.len, o.len) else {
         return Deed::Fails(Refusal::Exhausted);
     };
-    let then_place = go_on(then, r);
-    Deed::Goes(next, then_place)
+    Deed::Goes(next, go_on(then, r))
+}
+
+// The slot of the object takes a value; false where there is no such slot.
+#[tactic(auto, unfolding(crate::specs::Slots::written_of))]
+pub fn write_slot(words: &mut [u32], s: u32, at: Slot, v: Operand<Primary>) -> bool
+    ensures { (written_in result words.new ≡ written_of words.old s at (operand_word v)) × When result (at.index < s) }
+{
+    let Slot { object, index } = at;
+    match objects::object_at(words, s, object) {
+        Some(o) if index < o.len => {
+            words[object.0 as usize + index as usize] = objects::word(v);
+            true
+        }
+        _ => false,
+    }
+}
+
+// The slot of the object's replica takes a value; false where there is no such slot.
+#[tactic(auto, unfolding(crate::specs::Slots::copied_of))]
+pub fn write_copy(words: &mut [u32], s: u32, at: Slot, c: Operand<Replica>) -> bool
+    ensures { (written_in result words.new ≡ copied_of words.old s at (copied_word c)) × When result (at.index < s) }
+{
+    let Slot { object, index } = at;
+    let Look::Forwarded(r, len) = objects::look_at(words, s, object) else {
+        return false;
+    };
+    if len <= index {
+        return false;
+    }
+    words[r.0 as usize + index as usize] = objects::word(c);
+    true
 }

@@ -5,7 +5,7 @@ use Rattle.std.proofs.lemmas.Bool.{eqb-false}
 use Rattle.table.specs.declared.Limits.{Limits}
 use Rattle.table.specs.declared.Table.{Table}
 use Rattle.table.specs.declared.Refusal.{Refusal}
-use Rattle.table.specs.declared.Refusal.TheVariants.{WrongLimit, NoTask, NoRegister, NilObject, NoSlot, OutOfTurn, Held, SlotInStore, NoRoom, Exhausted, Damaged}
+use Rattle.table.specs.declared.Refusal.TheVariants.{WrongLimit}
 use Rattle.machine.specs.Basics.{pick}
 use Rattle.machine.specs.Numbers.{number_of, refusal}
 use Rattle.machine.specs.Entries.{Ends}
@@ -27,16 +27,7 @@ one_setup l t ws x y p q = same_end p q
 -- each refusal has the number by which the definitions name it
 pub numbered : (x : Refusal) → refusal (number_of x) ≡ x
 numbered WrongLimit = refl
-numbered NoTask = refl
-numbered NoRegister = refl
-numbered NilObject = refl
-numbered NoSlot = refl
-numbered OutOfTurn = refl
-numbered Held = refl
-numbered SlotInStore = refl
-numbered NoRoom = refl
-numbered Exhausted = refl
-numbered Damaged = refl
+numbered _ = refl
 
 -- one test of a number n from k on: it is k, whose refusal is x, or it is above k
 pub tested : (n k : ℕ) (x rest : Refusal) → k ≤ n → number_of x ≡ k → (k < n → number_of rest ≡ n) → number_of (pick (eqb n k) x rest) ≡ n

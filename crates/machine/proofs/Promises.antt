@@ -38,6 +38,7 @@ use Rattle.machine.proofs.Beside.Exact.{waits_right, ends_right, nine_right, fli
 use Rattle.machine.specs.Beside.Rooms.{Suits}
 use Rattle.machine.specs.Beside.Demand3.{Lasts, AllSuit}
 use Rattle.machine.proofs.Beside.Demand3.{copies_right, exactly_once, room_enough, flip_suits}
+use Rattle.machine.specs.Words.{wanted}
 
 -- how the set-up ends, and the heap after the run
 abbrev pub set_up : Table → Limits → List ℕ → Ends
@@ -96,12 +97,12 @@ module _ (t : Table) (l : Limits) (ws : List ℕ) (accepted : sizes_ok l (length
       → NothingGrey (after cs t l ws).out.table
   ends_early_only = ends_right t l ws accepted cs living
 
-  pub nine_only_for_room : (i r len m : ℕ) → (after cs t l ws).out.table.on ≡ true → (task_at (after cs t l ws).out.table i).place ≡ New r len m
+  pub nine_only_for_room : (i r len m : ℕ) → (after cs t l ws).out.table.on ≡ true → (task_at (after cs t l ws).out.table i).place ≡ New (wanted r len m)
       → (then (Call.Step i) (after cs t l ws)).out.answer ≡ No NoRoom → TooFull (after cs t l ws).out.table len
   nine_only_for_room = nine_right t l ws accepted cs living
 
   pub flips_only_for_room : (i r len m : ℕ) → (after cs t l ws).out.table.on ≡ false
-      → ((task_at (after cs t l ws).out.table i).place ≡ New r len m) ⊎ ((task_at (after cs t l ws).out.table i).place ≡ Asked r len m)
+      → ((task_at (after cs t l ws).out.table i).place ≡ New (wanted r len m)) ⊎ ((task_at (after cs t l ws).out.table i).place ≡ Asked (wanted r len m))
       → (then (Call.Step i) (after cs t l ws)).out.answer ≡ Moved → NoneLeft (after cs t l ws).out.table len
   flips_only_for_room = flip_right t l ws accepted cs living
 

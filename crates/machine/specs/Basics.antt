@@ -1,10 +1,15 @@
 -- Choices by a test, and what a test shows; tests and changes along a list.
-use Rattle.std.specs.Prelude.{ℕ, zero, suc, List, [], ◌∷◌, Bool, true, false}
+use Rattle.std.specs.Prelude.{ℕ, zero, suc, List, [], ◌∷◌, Bool, true, false, Result}
+use Rattle.table.specs.declared.Refusal.{Refusal}
 
 -- the first of the two if the test holds, else the second
 abbrev pub pick {ℓ} : {A : Type ℓ} → Bool → A → A → A
 pick true a b = a
 pick false a b = b
+
+-- a test that is passed, or what it refuses with
+abbrev pub Gate : Type 0
+Gate = Result (Unit {0}) Refusal
 
 -- what a test that came out true shows
 abbrev pub When : Bool → Type 0 → Type 0

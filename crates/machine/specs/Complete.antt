@@ -1,9 +1,8 @@
 -- The instructions that complete in the call: Move, Clear, to and from a shared root, Same, Load.
-use Rattle.std.specs.Prelude.{ℕ, ◌+◌, List, Bool, get_or, ltb, leb, eqb}
+use Rattle.std.specs.Prelude.{ℕ, ◌+◌, List, Bool, get_or, ltb, leb, eqb, Option, Some, None}
 use Rattle.table.specs.declared.Primary.{Primary}
 use Rattle.table.specs.declared.Table.{Table}
-use Rattle.table.specs.declared.Object.{Object}
-use Rattle.table.specs.declared.Object.TheVariants.{Whole, Torn}
+use Rattle.table.specs.declared.Descriptor.{Descriptor}
 use Rattle.table.specs.declared.Answer.TheVariants.{Done, Value}
 use Rattle.table.specs.declared.Outcome.{Outcome}
 use Rattle.machine.specs.Basics.{pick}
@@ -42,12 +41,12 @@ same_of t ws task a b =
     (pick (eqb (register (task_at t task) a).0 (register (task_at t task) b).0) (out t (Value 1)) (out t (Value 0)))
 
 -- the slot of an object: a pointer goes to the register, a plain word is answered
-abbrev pub load_slot : Table → List ℕ → ℕ → ℕ → Primary → ℕ → Object → Outcome
-load_slot t ws task to p slot (Whole len m) =
-    pick (leb len slot) (no t 5)
-    (pick (ltb slot m) (out (with_register t task to (primary (get_or ws (p.0 + slot) 0))) Done)
+abbrev pub load_slot : Table → List ℕ → ℕ → ℕ → Primary → ℕ → Option Descriptor → Outcome
+load_slot t ws task to p slot (Some o) =
+    pick (leb o.len slot) (no t 5)
+    (pick (ltb slot o.m) (out (with_register t task to (primary (get_or ws (p.0 + slot) 0))) Done)
     (out t (Value (get_or ws (p.0 + slot) 0))))
-load_slot t ws task to p slot Torn = no t 11
+load_slot t ws task to p slot None = no t 11
 
 unfoldable pub load_from : Table → List ℕ → ℕ → ℕ → Primary → ℕ → Outcome
 load_from t ws task to p slot =

@@ -1,12 +1,10 @@
 -- Tables and task entries with some of their parts changed, and how a call ends.
-use Rattle.std.specs.Prelude.{ℕ, List, [], Bool, true, get_or, set, ltb}
+use Rattle.std.specs.Prelude.{ℕ, List, [], Bool, true, get_or, set, ltb, Option, Some, None}
 use Rattle.table.specs.declared.Primary.{Primary}
 use Rattle.table.specs.declared.Limits.{Limits}
 use Rattle.table.specs.declared.Marks.{Marks}
-use Rattle.table.specs.declared.Pending.{Pending}
-use Rattle.table.specs.declared.Pending.TheVariants.{Nothing, Making}
-use Rattle.table.specs.declared.Storing.{Storing}
-use Rattle.table.specs.declared.Storing.TheVariants.{Nowhere}
+use Rattle.table.specs.declared.Making.{Making}
+use Rattle.table.specs.declared.Slot.{Slot}
 use Rattle.table.specs.declared.Place.{Place}
 use Rattle.table.specs.declared.Place.TheVariants.{Idle}
 use Rattle.table.specs.declared.Task.{Task}
@@ -17,10 +15,17 @@ use Rattle.table.specs.declared.Refusal.{Refusal}
 use Rattle.table.specs.declared.Answer.{Answer}
 use Rattle.table.specs.declared.Answer.TheVariants.{No}
 use Rattle.table.specs.declared.Outcome.{Outcome}
+use Rattle.machine.specs.Words.{slot_at}
 use Rattle.machine.specs.Numbers.{refusal, Effect, harmless, ends_new, spends, breaks, effect_of}
 
--- a task entry, a table and the marks, by their parts
-abbrev pub entry : List Primary → Pending → Storing → Place → Task
+-- a pending object, the slot of a Store, a task entry, a table and the marks, by their parts
+abbrev pub pending_with : Primary → ℕ → ℕ → ℕ → Option Making
+pending_with p r len f = Some (record { at = p; register = r; len = len; filled = f })
+
+abbrev pub storing_on : Primary → ℕ → Option Slot
+storing_on x i = Some (slot_at x i)
+
+abbrev pub entry : List Primary → Option Making → Option Slot → Place → Task
 entry regs pending storing place = record { regs = regs; pending = pending; storing = storing; place = place }
 
 abbrev pub table : Limits → Bool → Bool → Marks → Life → List Primary → List Task → Table
@@ -35,7 +40,7 @@ abbrev pub marks_at : ℕ → ℕ → ℕ → ℕ → Marks
 marks_at a top j copies = record { a = a; top = top; j = j; copies = copies }
 
 abbrev pub no_task : Task
-no_task = entry [] Nothing Nowhere Idle
+no_task = entry [] None None Idle
 
 abbrev pub task_at : Table → ℕ → Task
 task_at t i = get_or t.tasks i no_task
@@ -47,9 +52,9 @@ abbrev pub register : Task → ℕ → Primary
 register e r = get_or e.regs r nil
 
 -- the register that a pending object goes to is one
-abbrev pub pending_ok : Pending → Bool
-pending_ok Nothing = true
-pending_ok (Making p r len f) = ltb r 8
+abbrev pub pending_ok : Option Making → Bool
+pending_ok None = true
+pending_ok (Some d) = ltb d.register 8
 
 -- the marks and one entry changed
 abbrev pub entered : Table → Marks → ℕ → Task → Table
@@ -62,7 +67,7 @@ unfoldable pub with_place : Table → ℕ → Place → Table
 with_place t i place = with_task t i (entry (task_at t i).regs (task_at t i).pending (task_at t i).storing place)
 
 -- the task has moved to a place, with these marks and this pending object
-unfoldable pub moved_table : Table → ℕ → Marks → Pending → Place → Table
+unfoldable pub moved_table : Table → ℕ → Marks → Option Making → Place → Table
 moved_table t i m pending place = entered t m i (entry (task_at t i).regs pending (task_at t i).storing place)
 
 unfoldable pub with_register : Table → ℕ → ℕ → Primary → Table

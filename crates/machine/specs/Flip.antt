@@ -1,54 +1,51 @@
 -- The flip, one step: the pending objects, then the roots, then the registers task by task.
-use Rattle.std.specs.Prelude.{ℕ, List, [], ◌∷◌, Bool, true, not, take, ltb, eqb}
+use Rattle.std.specs.Prelude.{ℕ, List, [], ◌∷◌, Bool, true, not, take, ltb, eqb, Option, Some, None, Result, Ok, Err}
 use Rattle.table.specs.declared.Primary.{Primary}
 use Rattle.table.specs.declared.Marks.{Marks}
-use Rattle.table.specs.declared.Pending.{Pending}
-use Rattle.table.specs.declared.Pending.TheVariants.{Nothing, Making}
+use Rattle.table.specs.declared.Refusal.{Refusal}
+use Rattle.table.specs.declared.Replica.{Replica}
+use Rattle.table.specs.declared.Making.{Making}
 use Rattle.table.specs.declared.Place.{Place}
 use Rattle.table.specs.declared.Place.TheVariants.{Idle, New, Asked, FillWrite, FillCopy, StoreWrite, Meet, StoreCopy, Take, Read, Put, Release, Looking, Placing}
 use Rattle.table.specs.declared.Task.{Task}
 use Rattle.table.specs.declared.Table.{Table}
 use Rattle.table.specs.declared.Look.{Look}
 use Rattle.table.specs.declared.Look.TheVariants.{White, Claimed, Forwarded, Lost}
-use Rattle.table.specs.declared.Placed.{Placed}
-use Rattle.table.specs.declared.Placed.TheVariants.{Twin, Full}
-use Rattle.table.specs.declared.Pass.{Pass}
-use Rattle.table.specs.declared.Pass.TheVariants.{On, Stopped}
 use Rattle.table.specs.declared.Answer.TheVariants.{Moved}
 use Rattle.table.specs.declared.Outcome.{Outcome}
 use Rattle.machine.specs.Basics.{pick, first_of}
 use Rattle.machine.specs.Numbers.{refusal}
-use Rattle.machine.specs.Words.{look_of, bottom_of, end_of}
+use Rattle.machine.specs.Words.{look_of, bottom_of, end_of, slot_at, wanted}
 use Rattle.machine.specs.Entries.{entry, marks_at, out, refused, Ends, ends, keeping}
 use Rattle.machine.specs.Look.{place_of}
 
 -- what a visit leaves: how the pass stands, and every word
 pub record Went : Type 0 where
-  pub pass : Pass
+  pub pass : Result Marks Refusal
   pub words : List ℕ
 
-abbrev pub went : Pass → List ℕ → Went
+abbrev pub went : Result Marks Refusal → List ℕ → Went
 went x ws = record { pass = x; words = ws }
 
 abbrev pub stops : ℕ → List ℕ → Went
-stops n ws = went (Stopped (refusal n)) ws
+stops n ws = went (Err (refusal n)) ws
 
 -- what comes next is done where the pass goes on; one that has stopped stays as it is, and so do the words
-abbrev pub onward : Pass → List ℕ → (Marks → List ℕ → Went) → Went
-onward (On m) ws rest = rest m ws
-onward (Stopped x) ws rest = went (Stopped x) ws
+abbrev pub onward : Result Marks Refusal → List ℕ → (Marks → List ℕ → Went) → Went
+onward (Ok m) ws rest = rest m ws
+onward (Err x) ws rest = went (Err x) ws
 
 abbrev pub next : Went → (Marks → List ℕ → Went) → Went
 next w rest = onward w.pass w.words rest
 
 -- a visit to each of these in order
 unfoldable pub pass_of : {A : Type 0} → (A → Marks → List ℕ → Went) → List A → Marks → List ℕ → Went
-pass_of visit [] m ws = went (On m) ws
+pass_of visit [] m ws = went (Ok m) ws
 pass_of visit (x ∷ xs) m ws = next (visit x m ws) (pass_of visit xs)
 
-abbrev pub placed_on : Placed → List ℕ → Went
-placed_on (Twin m r) ws = went (On m) ws
-placed_on Full ws = stops 10 ws
+abbrev pub placed_on : Option (Marks × Replica) → List ℕ → Went
+placed_on (Some (m, r)) ws = went (Ok m) ws
+placed_on None ws = stops 10 ws
 
 -- a replica for the object at p, of length len, with count slots to copy
 abbrev pub placing : ℕ → Primary → ℕ → ℕ → Marks → List ℕ → Went
@@ -58,11 +55,11 @@ placing end p len count m ws = placed_on (place_of m end ws p len count).placed 
 abbrev pub visit_case : ℕ → Primary → Marks → List ℕ → Look → Went
 visit_case end p m ws (White len) = placing end p len len m ws
 visit_case end p m ws Claimed = stops 11 ws
-visit_case end p m ws (Forwarded r len) = went (On m) ws
+visit_case end p m ws (Forwarded r len) = went (Ok m) ws
 visit_case end p m ws Lost = stops 11 ws
 
 unfoldable pub visit_of : ℕ → ℕ → Primary → Marks → List ℕ → Went
-visit_of end s p m ws = pick (eqb p.0 0) (went (On m) ws) (visit_case end p m ws (look_of ws s p))
+visit_of end s p m ws = pick (eqb p.0 0) (went (Ok m) ws) (visit_case end p m ws (look_of ws s p))
 
 -- a pending object: its replica has the filled slots to copy
 abbrev pub pending_case : ℕ → Primary → ℕ → Marks → List ℕ → Look → Went
@@ -71,9 +68,9 @@ pending_case end p f m ws Claimed = stops 11 ws
 pending_case end p f m ws (Forwarded r len) = stops 11 ws
 pending_case end p f m ws Lost = stops 11 ws
 
-unfoldable pub visit_pending_of : ℕ → ℕ → Pending → Marks → List ℕ → Went
-visit_pending_of end s Nothing m ws = went (On m) ws
-visit_pending_of end s (Making p r len f) m ws = pending_case end p f m ws (look_of ws s p)
+unfoldable pub visit_pending_of : ℕ → ℕ → Option Making → Marks → List ℕ → Went
+visit_pending_of end s None m ws = went (Ok m) ws
+visit_pending_of end s (Some d) m ws = pending_case end d.at d.filled m ws (look_of ws s d.at)
 
 abbrev pub pending_pass : ℕ → ℕ → Task → Marks → List ℕ → Went
 pending_pass end s e m ws = visit_pending_of end s e.pending m ws
@@ -99,17 +96,17 @@ passes_of t ws =
 -- "Each New that stood waiting goes on in the collecting rules"
 unfoldable pub unasked : Place → Place
 unasked Idle = Idle
-unasked (New r len m) = New r len m
-unasked (Asked r len m) = New r len m
+unasked (New want) = New want
+unasked (Asked want) = New want
 unasked (FillWrite v) = FillWrite v
 unasked (FillCopy c) = FillCopy c
 unasked (StoreWrite v) = StoreWrite v
 unasked (Meet v) = Meet v
 unasked (StoreCopy c) = StoreCopy c
 unasked (Take n) = Take n
-unasked (Read n x i) = Read n x i
-unasked (Put n x i c) = Put n x i c
-unasked (Release n x i) = Release n x i
+unasked (Read n job) = Read n job
+unasked (Put n job c) = Put n job c
+unasked (Release n job) = Release n job
 unasked (Looking p then) = Looking p then
 unasked (Placing p then) = Placing p then
 
@@ -121,9 +118,9 @@ abbrev pub flipped : Table → Marks → Table
 flipped t m =
     keeping t (not t.upper) true m t.life t.roots (first_of t.limits.p unasked_entry t.tasks)
 
-abbrev pub flip_end : Table → Pass → Outcome
-flip_end t (On m) = out (flipped t m) Moved
-flip_end t (Stopped x) = refused t x
+abbrev pub flip_end : Table → Result Marks Refusal → Outcome
+flip_end t (Ok m) = out (flipped t m) Moved
+flip_end t (Err x) = refused t x
 
 unfoldable pub flip_of : Table → List ℕ → Ends
 flip_of t ws = ends (flip_end t (passes_of t ws).pass) (passes_of t ws).words

@@ -1,14 +1,12 @@
 -- What every call tests first: limits and buffer (1), the dead number, the table's numbers (11), the task (2).
-use Rattle.std.specs.Prelude.{ℕ, ◌+◌, ◌-◌, ◌*◌, List, Bool, true, false, length, ltb, eqb}
+use Rattle.std.specs.Prelude.{ℕ, ◌+◌, ◌-◌, ◌*◌, List, Bool, true, false, length, ltb, eqb, Ok, Err}
 use Rattle.table.specs.declared.Limits.{Limits}
 use Rattle.table.specs.declared.Marks.{Marks}
 use Rattle.table.specs.declared.Life.{Life}
 use Rattle.table.specs.declared.Life.TheVariants.{Living, Spent, Broken}
 use Rattle.table.specs.declared.Table.{Table}
-use Rattle.table.specs.declared.Gate.{Gate}
-use Rattle.table.specs.declared.Gate.TheVariants.{Open, Shut}
 use Rattle.table.specs.declared.Outcome.{Outcome}
-use Rattle.machine.specs.Basics.{pick}
+use Rattle.machine.specs.Basics.{pick, Gate}
 use Rattle.machine.specs.Numbers.{refusal}
 use Rattle.machine.specs.Words.{bottom_of, end_of}
 use Rattle.machine.specs.Entries.{refused}
@@ -42,32 +40,32 @@ marks_ok l upper m =
 -- the dead number, or what the tests behind it give
 abbrev pub living_or : Life → Gate → Gate
 living_or Living g = g
-living_or Spent g = Shut (refusal 10)
-living_or Broken g = Shut (refusal 11)
+living_or Spent g = Err (refusal 10)
+living_or Broken g = Err (refusal 11)
 
 unfoldable pub gate_of : Limits → Life → Bool → Marks → ℕ → Gate
 gate_of l life upper m n =
-    pick (sizes_ok l n) (living_or life (pick (marks_ok l upper m) Open (Shut (refusal 11)))) (Shut (refusal 1))
+    pick (sizes_ok l n) (living_or life (pick (marks_ok l upper m) (Ok tt) (Err (refusal 11)))) (Err (refusal 1))
 
 -- a gate, and behind it another
 abbrev pub behind : Gate → Gate → Gate
-behind Open g = g
-behind (Shut x) g = Shut x
+behind (Ok u) g = g
+behind (Err x) g = Err x
 
 -- no such task
 unfoldable pub task_gate_of : Limits → Life → Bool → Marks → ℕ → ℕ → Gate
-task_gate_of l life upper m n task = behind (gate_of l life upper m n) (pick (ltb task l.p) Open (Shut (refusal 2)))
+task_gate_of l life upper m n task = behind (gate_of l life upper m n) (pick (ltb task l.p) (Ok tt) (Err (refusal 2)))
 
 -- a register or root above 7
 unfoldable pub pair_gate_of : Limits → Life → Bool → Marks → ℕ → ℕ → ℕ → ℕ → Gate
 pair_gate_of l life upper m n task a b =
     behind (task_gate_of l life upper m n task)
-    (pick (ltb 7 a) (Shut (refusal 3)) (pick (ltb 7 b) (Shut (refusal 3)) Open))
+    (pick (ltb 7 a) (Err (refusal 3)) (pick (ltb 7 b) (Err (refusal 3)) (Ok tt)))
 
 -- what the tests behind the gate give, or the gate's refusal
 abbrev pub through : Gate → Table → Outcome → Outcome
-through Open t o = o
-through (Shut x) t o = refused t x
+through (Ok u) t o = o
+through (Err x) t o = refused t x
 
 abbrev pub table_gate : Table → List ℕ → Gate
 table_gate t ws = gate_of t.limits t.life t.upper t.marks (length ws)

@@ -50,17 +50,17 @@ went (No x) = false
 -- a release completes a copy
 abbrev pub with_copy : Place → Answer → List Copy → List Copy
 with_copy Idle x cs = cs
-with_copy (New r len m) x cs = cs
-with_copy (Asked r len m) x cs = cs
+with_copy (New want) x cs = cs
+with_copy (Asked want) x cs = cs
 with_copy (FillWrite v) x cs = cs
 with_copy (FillCopy c) x cs = cs
 with_copy (StoreWrite v) x cs = cs
 with_copy (Meet v) x cs = cs
 with_copy (StoreCopy c) x cs = cs
 with_copy (Take n) x cs = cs
-with_copy (Read n p i) x cs = cs
-with_copy (Put n p i c) x cs = cs
-with_copy (Release n p i) x cs = pick (went x) (copy p.0 i ∷ cs) cs
+with_copy (Read n job) x cs = cs
+with_copy (Put n job c) x cs = cs
+with_copy (Release n job) x cs = pick (went x) (copy job.object.0 job.index ∷ cs) cs
 with_copy (Looking p next) x cs = cs
 with_copy (Placing p next) x cs = cs
 

@@ -14,51 +14,51 @@ use Rattle.machine.specs.StillStore.{Store, Kind, Made, Filled, Written, Ended, 
 -- a step that is done
 abbrev pub done_kinds : Place → List Kind
 done_kinds Idle = []
-done_kinds (New r len m) = Made ∷ Ended ∷ []
-done_kinds (Asked r len m) = Made ∷ Ended ∷ []
+done_kinds (New want) = Made ∷ Ended ∷ []
+done_kinds (Asked want) = Made ∷ Ended ∷ []
 done_kinds (FillWrite v) = Filled ∷ Ended ∷ []
 done_kinds (FillCopy c) = Ended ∷ []
 done_kinds (StoreWrite v) = Written ∷ Ended ∷ []
 done_kinds (Meet v) = Ended ∷ []
 done_kinds (StoreCopy c) = Ended ∷ []
 done_kinds (Take n) = Ended ∷ []
-done_kinds (Read n x i) = Ended ∷ []
-done_kinds (Put n x i c) = Ended ∷ []
-done_kinds (Release n x i) = Ended ∷ []
+done_kinds (Read n job) = Ended ∷ []
+done_kinds (Put n job c) = Ended ∷ []
+done_kinds (Release n job) = Ended ∷ []
 done_kinds (Looking p next) = Ended ∷ []
 done_kinds (Placing p next) = Ended ∷ []
 
 -- a New's step moved: the flip leaves it at New, the claim brings it to pay
 abbrev pub pays : Place → Bool
 pays Idle = false
-pays (New r len m) = false
-pays (Asked r len m) = false
+pays (New want) = false
+pays (Asked want) = false
 pays (FillWrite v) = false
 pays (FillCopy c) = false
 pays (StoreWrite v) = false
 pays (Meet v) = false
 pays (StoreCopy c) = false
 pays (Take n) = true
-pays (Read n x i) = false
-pays (Put n x i c) = false
-pays (Release n x i) = false
+pays (Read n job) = false
+pays (Put n job c) = false
+pays (Release n job) = false
 pays (Looking p next) = false
 pays (Placing p next) = false
 
 -- a step that moved
 abbrev pub moved_kinds : Place → Place → List Kind
 moved_kinds Idle after = []
-moved_kinds (New r len m) after = pick (pays after) (Made ∷ []) []
-moved_kinds (Asked r len m) after = []
+moved_kinds (New want) after = pick (pays after) (Made ∷ []) []
+moved_kinds (Asked want) after = []
 moved_kinds (FillWrite v) after = []
 moved_kinds (FillCopy c) after = Filled ∷ []
 moved_kinds (StoreWrite v) after = Written ∷ []
 moved_kinds (Meet v) after = []
 moved_kinds (StoreCopy c) after = []
 moved_kinds (Take n) after = []
-moved_kinds (Read n x i) after = []
-moved_kinds (Put n x i c) after = []
-moved_kinds (Release n x i) after = []
+moved_kinds (Read n job) after = []
+moved_kinds (Put n job c) after = []
+moved_kinds (Release n job) after = []
 moved_kinds (Looking p next) after = []
 moved_kinds (Placing p next) after = []
 

@@ -1,40 +1,35 @@
 -- Look and place, each once, with what follows as data.
-use Rattle.std.specs.Prelude.{ℕ, ◌+◌, ◌-◌, List, true, get_or, set, eqb}
+use Rattle.std.specs.Prelude.{ℕ, ◌+◌, ◌-◌, List, true, get_or, set, eqb, Option, Some, None}
 use Rattle.table.specs.declared.Primary.{Primary}
 use Rattle.table.specs.declared.Replica.{Replica}
 use Rattle.table.specs.declared.Marks.{Marks}
+use Rattle.table.specs.declared.Descriptor.{Descriptor}
 use Rattle.table.specs.declared.Operand.{Operand}
 use Rattle.table.specs.declared.Operand.TheVariants.{Plain, Pointer}
-use Rattle.table.specs.declared.Copied.{Copied}
-use Rattle.table.specs.declared.Copied.TheVariants.{Same, Renamed}
 use Rattle.table.specs.declared.Then.{Then}
 use Rattle.table.specs.declared.Then.TheVariants.{ToWrite, ToStoreCopy, ToFillCopy, ToPut}
 use Rattle.table.specs.declared.Place.{Place}
 use Rattle.table.specs.declared.Place.TheVariants.{FillCopy, StoreWrite, StoreCopy, Put, Looking, Placing}
-use Rattle.table.specs.declared.Object.{Object}
-use Rattle.table.specs.declared.Object.TheVariants.{Whole, Torn}
 use Rattle.table.specs.declared.Look.{Look}
 use Rattle.table.specs.declared.Look.TheVariants.{White, Claimed, Forwarded, Lost}
 use Rattle.table.specs.declared.Sought.TheVariants.{Claimer}
 use Rattle.table.specs.declared.Deed.TheVariants.{Goes, Waits}
-use Rattle.table.specs.declared.Placed.{Placed}
-use Rattle.table.specs.declared.Placed.TheVariants.{Twin, Full}
 use Rattle.machine.specs.Basics.{pick}
-use Rattle.machine.specs.Words.{replica, object_of, look_of, if_forwarded, room_for, laid}
+use Rattle.machine.specs.Words.{replica, object_of, look_of, if_forwarded, room_for, laid, slot_at}
 use Rattle.machine.specs.Entries.{marks_at}
 use Rattle.machine.specs.Deeds.{Acted, acted, fails}
 
 -- what follows a look, now that the replica is known
 abbrev pub go_on : Then → Replica → Place
 go_on (ToWrite v) r = StoreWrite v
-go_on ToStoreCopy r = StoreCopy (Renamed r)
-go_on ToFillCopy r = FillCopy (Renamed r)
-go_on (ToPut n x i) r = Put n x i (Renamed r)
+go_on ToStoreCopy r = StoreCopy (Pointer r)
+go_on ToFillCopy r = FillCopy (Pointer r)
+go_on (ToPut n job) r = Put n job (Pointer r)
 
 -- the place of a task whose value is known: only a look at a plain or nil value takes no step
-abbrev pub look_ahead : Operand → Then → (Copied → Place) → Place
-look_ahead (Plain w) then copy = copy (Same w)
-look_ahead (Pointer p) then copy = pick (eqb p.0 0) (copy (Renamed (replica 0))) (Looking p then)
+abbrev pub look_ahead : Operand Primary → Then → (Operand Replica → Place) → Place
+look_ahead (Plain w) then copy = copy (Plain w)
+look_ahead (Pointer p) then copy = pick (eqb p.0 0) (copy (Pointer (replica 0))) (Looking p then)
 
 -- a look that found no replica: header 0 becomes 1 (then place follows); header 1 waits for the claimer
 abbrev pub unplaced_case : Marks → List ℕ → Primary → Then → Look → Acted
@@ -49,10 +44,10 @@ look_step_of m ws s p then = if_forwarded (look_of ws s p) (λ r len. acted (Goe
 
 -- what claiming a replica leaves
 pub record PlacedIn : Type 0 where
-  pub placed : Placed
+  pub placed : Option (Marks × Replica)
   pub words : List ℕ
 
-abbrev pub placed_in : Placed → List ℕ → PlacedIn
+abbrev pub placed_in : Option (Marks × Replica) → List ℕ → PlacedIn
 placed_in x ws = record { placed = x; words = ws }
 
 -- a replica of the object at p claimed at a, with its descriptor and count, and the primary forwarded to it
@@ -64,22 +59,22 @@ unfoldable pub place_of : Marks → ℕ → List ℕ → Primary → ℕ → ℕ
 place_of m end ws p len count =
     pick (eqb count 0)
     (pick (room_for true m end (len + 2))
-    (placed_in (Twin (marks_at (m.a + (len + 2)) m.top m.j m.copies) (replica (m.a + 2))) (forwarded_to ws m.a p 0))
-    (placed_in Full ws))
+    (placed_in (Some (marks_at (m.a + (len + 2)) m.top m.j m.copies, replica (m.a + 2))) (forwarded_to ws m.a p 0))
+    (placed_in None ws))
     (pick (room_for true m end (len + 3))
     (placed_in
-    (Twin (marks_at (m.a + (len + 2)) (m.top - 1) m.j m.copies) (replica (m.a + 2)))
+    (Some (marks_at (m.a + (len + 2)) (m.top - 1) m.j m.copies, replica (m.a + 2)))
     (set (forwarded_to ws m.a p count) (m.top - 1) p.0))
-    (placed_in Full ws))
+    (placed_in None ws))
 
-abbrev pub placed_then : Then → Placed → List ℕ → Acted
-placed_then then (Twin m r) ws = acted (Goes m (go_on then r)) ws
-placed_then then Full ws = fails 10 ws
+abbrev pub placed_then : Then → Option (Marks × Replica) → List ℕ → Acted
+placed_then then (Some (m, r)) ws = acted (Goes m (go_on then r)) ws
+placed_then then None ws = fails 10 ws
 
 -- a placed object has all its slots to copy
-abbrev pub place_case : Marks → ℕ → List ℕ → Primary → Then → Object → Acted
-place_case m end ws p then (Whole len k) = placed_then then (place_of m end ws p len len).placed (place_of m end ws p len len).words
-place_case m end ws p then Torn = fails 11 ws
+abbrev pub place_case : Marks → ℕ → List ℕ → Primary → Then → Option Descriptor → Acted
+place_case m end ws p then (Some o) = placed_then then (place_of m end ws p o.len o.len).placed (place_of m end ws p o.len o.len).words
+place_case m end ws p then None = fails 11 ws
 
 unfoldable pub place_step_of : Marks → ℕ → List ℕ → ℕ → Primary → Then → Acted
 place_step_of m end ws s p then = place_case m end ws p then (object_of ws s p)

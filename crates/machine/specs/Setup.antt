@@ -1,8 +1,6 @@
 -- Set-up and report.
-use Rattle.std.specs.Prelude.{ℕ, ◌+◌, ◌-◌, List, false, length, replicate}
+use Rattle.std.specs.Prelude.{ℕ, ◌+◌, ◌-◌, List, false, length, replicate, None}
 use Rattle.table.specs.declared.Limits.{Limits}
-use Rattle.table.specs.declared.Pending.TheVariants.{Nothing}
-use Rattle.table.specs.declared.Storing.TheVariants.{Nowhere}
 use Rattle.table.specs.declared.Place.TheVariants.{Idle}
 use Rattle.table.specs.declared.Life.TheVariants.{Living}
 use Rattle.table.specs.declared.Task.{Task}
@@ -19,7 +17,7 @@ limits p s h k = record { p = p; s = s; h = h; k = k }
 
 -- "starts in the lower space with the collector off, all registers and roots nil"
 abbrev pub fresh_task : Task
-fresh_task = entry (replicate 8 nil) Nothing Nowhere Idle
+fresh_task = entry (replicate 8 nil) None None Idle
 
 abbrev pub fresh_table : Limits → Table
 fresh_table l = table l false false (marks_at 2 (l.h + 2) 0 0) Living (replicate 8 nil) (replicate 8 fresh_task)

@@ -1,10 +1,8 @@
 -- The end of an instruction, and the switch-over.
-use Rattle.std.specs.Prelude.{ℕ, List, Bool, true, false, set, take, eqb}
+use Rattle.std.specs.Prelude.{ℕ, List, Bool, true, false, set, take, eqb, Option, Some, None}
 use Rattle.table.specs.declared.Primary.{Primary}
 use Rattle.table.specs.declared.Marks.{Marks}
-use Rattle.table.specs.declared.Pending.{Pending}
-use Rattle.table.specs.declared.Pending.TheVariants.{Nothing, Making}
-use Rattle.table.specs.declared.Storing.TheVariants.{Nowhere}
+use Rattle.table.specs.declared.Making.{Making}
 use Rattle.table.specs.declared.Place.TheVariants.{Idle}
 use Rattle.table.specs.declared.Task.{Task}
 use Rattle.table.specs.declared.Table.{Table}
@@ -14,7 +12,7 @@ use Rattle.table.specs.declared.Answer.{Answer}
 use Rattle.table.specs.declared.Outcome.{Outcome}
 use Rattle.machine.specs.Basics.{pick, all_of, first_of}
 use Rattle.machine.specs.Words.{primary, look_of, end_of}
-use Rattle.machine.specs.Entries.{entry, task_at, out, no, Ends, ends, entered, keeping}
+use Rattle.machine.specs.Entries.{entry, task_at, out, no, Ends, ends, entered, keeping, pending_with}
 use Rattle.machine.specs.Tasks.{grey_of, all_idle}
 
 -- what a pointer becomes: its replica, and nil stays nil
@@ -36,13 +34,13 @@ is_forwarded Lost = false
 unfoldable pub has_replica : List ℕ → ℕ → Primary → Bool
 has_replica ws s p = pick (eqb p.0 0) true (is_forwarded (look_of ws s p))
 
-unfoldable pub new_pending : List ℕ → ℕ → Pending → Pending
-new_pending ws s Nothing = Nothing
-new_pending ws s (Making p r len f) = Making (new_name ws s p) r len f
+unfoldable pub new_pending : List ℕ → ℕ → Option Making → Option Making
+new_pending ws s None = None
+new_pending ws s (Some d) = pending_with (new_name ws s d.at) d.register d.len d.filled
 
-unfoldable pub pending_has_replica : List ℕ → ℕ → Pending → Bool
-pending_has_replica ws s Nothing = true
-pending_has_replica ws s (Making p r len f) = has_replica ws s p
+unfoldable pub pending_has_replica : List ℕ → ℕ → Option Making → Bool
+pending_has_replica ws s None = true
+pending_has_replica ws s (Some d) = has_replica ws s d.at
 
 unfoldable pub new_entry : List ℕ → ℕ → Task → Task
 new_entry ws s e = entry (first_of 8 (new_name ws s) e.regs) (new_pending ws s e.pending) e.storing e.place
@@ -75,17 +73,17 @@ switch_due t =
     false
 
 -- the task idle; a pending object with all its slots filled goes to its register
-abbrev pub ended_entry : List Primary → Pending → Task
-ended_entry regs Nothing = entry regs Nothing Nowhere Idle
-ended_entry regs (Making p r len f) =
-    pick (eqb f len) (entry (set regs r p) Nothing Nowhere Idle) (entry regs (Making p r len f) Nowhere Idle)
+abbrev pub ended_entry : List Primary → Option Making → Task
+ended_entry regs None = entry regs None None Idle
+ended_entry regs (Some d) =
+    pick (eqb d.filled d.len) (entry (set regs d.register d.at) None None Idle) (entry regs (Some d) None Idle)
 
-abbrev pub ended_table : Table → ℕ → Marks → Pending → Table
+abbrev pub ended_table : Table → ℕ → Marks → Option Making → Table
 ended_table t i m pending = entered t m i (ended_entry (task_at t i).regs pending)
 
 abbrev pub switched_or : Table → Table → List ℕ → Answer → Outcome
 switched_or came t ws x = pick (switch_due t) (switch_of came t ws x) (out t x)
 
 -- the instruction of task i ends in this step, with an answer: the action left these marks, this pending object, these words
-unfoldable pub finish_of : Table → List ℕ → ℕ → Marks → Pending → Answer → Ends
+unfoldable pub finish_of : Table → List ℕ → ℕ → Marks → Option Making → Answer → Ends
 finish_of t ws i m pending x = ends (switched_or t (ended_table t i m pending) ws x) ws

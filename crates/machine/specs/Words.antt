@@ -1,18 +1,17 @@
 -- What the buffer's words mean: descriptors, objects, headers, room.
-use Rattle.std.specs.Prelude.{ℕ, ◌+◌, ◌-◌, ◌*◌, ◌/◌, ◌%◌, List, Bool, length, get_or, set, ltb, leb, eqb}
+use Rattle.std.specs.Prelude.{ℕ, ◌+◌, ◌-◌, ◌*◌, ◌/◌, ◌%◌, List, Bool, length, get_or, set, ltb, leb, eqb, Option, Some, None}
 use Rattle.table.specs.declared.Primary.{Primary}
 use Rattle.table.specs.declared.Replica.{Replica}
 use Rattle.table.specs.declared.Marks.{Marks}
-use Rattle.table.specs.declared.Object.{Object}
-use Rattle.table.specs.declared.Object.TheVariants.{Whole, Torn}
+use Rattle.table.specs.declared.Descriptor.{Descriptor}
+use Rattle.table.specs.declared.Slot.{Slot}
+use Rattle.table.specs.declared.Wanted.{Wanted}
+use Rattle.table.specs.declared.Operand.{Operand}
+use Rattle.table.specs.declared.Operand.TheVariants.{Plain, Pointer}
 use Rattle.table.specs.declared.Look.{Look}
 use Rattle.table.specs.declared.Look.TheVariants.{White, Claimed, Forwarded, Lost}
 use Rattle.table.specs.declared.Copying.{Copying}
 use Rattle.table.specs.declared.Copying.TheVariants.{Count, Locked, Neither}
-use Rattle.table.specs.declared.Operand.{Operand}
-use Rattle.table.specs.declared.Operand.TheVariants.{Plain, Pointer}
-use Rattle.table.specs.declared.Copied.{Copied}
-use Rattle.table.specs.declared.Copied.TheVariants.{Same, Renamed}
 use Rattle.machine.specs.Basics.{pick}
 
 abbrev pub primary : ℕ → Primary
@@ -31,19 +30,30 @@ length_in d = d / 256
 abbrev pub pointers_in : ℕ → ℕ
 pointers_in d = d % 256
 
+-- slot i of the object at x, and what a New asks for
+abbrev pub slot_at : Primary → ℕ → Slot
+slot_at x i = record { object = x; index = i }
+
+abbrev pub wanted : ℕ → ℕ → ℕ → Wanted
+wanted r len m = record { register = r; len = len; m = m }
+
+-- an object of length L with m pointer slots, by what its descriptor says
+abbrev pub described : ℕ → ℕ → Option Descriptor
+described len m = Some (record { len = len; m = m })
+
 -- the object at p in a buffer of n words, by its descriptor d: L at most S, m at most L, its slots inside
-abbrev pub object_by : ℕ → ℕ → ℕ → ℕ → Object
+abbrev pub object_by : ℕ → ℕ → ℕ → ℕ → Option Descriptor
 object_by n s p d =
-    pick (ltb s (length_in d)) Torn
-    (pick (ltb (length_in d) (pointers_in d)) Torn
-    (pick (ltb (n - p) (length_in d)) Torn
-    (Whole (length_in d) (pointers_in d))))
+    pick (ltb s (length_in d)) None
+    (pick (ltb (length_in d) (pointers_in d)) None
+    (pick (ltb (n - p) (length_in d)) None
+    (described (length_in d) (pointers_in d))))
 
 -- what the pointer leads to: no object has a pointer below 4, and only one of length 0 has the buffer's end
-unfoldable pub object_of : List ℕ → ℕ → Primary → Object
+unfoldable pub object_of : List ℕ → ℕ → Primary → Option Descriptor
 object_of ws s p =
-    pick (ltb p.0 4) Torn
-    (pick (ltb (length ws) p.0) Torn
+    pick (ltb p.0 4) None
+    (pick (ltb (length ws) p.0) None
     (object_by (length ws) s p.0 (get_or ws (p.0 - 2) 0)))
 
 -- a header h of a primary of length len: 0 white, 1 claimed, else its replica's pointer
@@ -56,9 +66,9 @@ header_of n len h =
     (pick (ltb (n - h) len) Lost
     (Forwarded (replica h) len)))))
 
-abbrev pub look_at : List ℕ → Primary → Object → Look
-look_at ws p (Whole len m) = header_of (length ws) len (get_or ws (p.0 - 1) 0)
-look_at ws p Torn = Lost
+abbrev pub look_at : List ℕ → Primary → Option Descriptor → Look
+look_at ws p (Some o) = header_of (length ws) o.len (get_or ws (p.0 - 1) 0)
+look_at ws p None = Lost
 
 -- what a look at an object finds
 unfoldable pub look_of : List ℕ → ℕ → Primary → Look
@@ -78,14 +88,16 @@ copying_of len h =
     (pick (ltb h 256) Neither
     (pick (ltb (h - 256) len) (Locked (h - 256)) Neither))
 
--- the words of a value, in a primary and in a replica
-abbrev pub operand_word : Operand → ℕ
-operand_word (Plain w) = w
-operand_word (Pointer p) = p.0
+-- the word of a value, by that of its pointer; in a primary, and in a replica
+abbrev pub value_word : {P : Type 0} → (P → ℕ) → Operand P → ℕ
+value_word word (Plain w) = w
+value_word word (Pointer p) = word p
 
-abbrev pub copied_word : Copied → ℕ
-copied_word (Same w) = w
-copied_word (Renamed r) = r.0
+abbrev pub operand_word : Operand Primary → ℕ
+operand_word v = value_word (λ (p : Primary). p.0) v
+
+abbrev pub copied_word : Operand Replica → ℕ
+copied_word c = value_word (λ (r : Replica). r.0) c
 
 -- the first word of the space in use, and the word after it
 unfoldable pub bottom_of : Bool → ℕ → ℕ

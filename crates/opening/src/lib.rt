@@ -1,71 +1,39 @@
-// What the calls of a task test after the gate: out of turn (6), held (7), and whether a slot takes what is given (5).
+// The opening of a task's calls, which the gate and the turn (6) make up; held (7); and whether a slot takes what is given (5).
 #![tactic(auto)]
 
 ghost use Rattle.std.specs.Prelude.{◌≡◌, ◌≤◌, ltb};
-ghost use Rattle.machine.specs.Bounds.{Paired};
-ghost use Rattle.machine.specs.Words.{end_of};
-ghost use Rattle.machine.specs.Gate.{pair_gate_of};
-ghost use Rattle.machine.specs.Tasks.{held_of};
-ghost use Rattle.machine.specs.Begin.{is_pointer, same_test};
-ghost use Rattle.opening.specs.Turn.{turn_gate_of};
+ghost use Rattle.machine.specs.Begin.{held_at, is_pointer, same_test};
+ghost use Rattle.opening.specs.Turn.{turn_of, Turned};
 
-use table::{Gate, Life, Limits, Marks, Operand, Refusal, Task};
+use table::{Operand, Primary, Refusal, Table, Task};
 
-// The gate of a call with two registers or roots, by a task with this entry: it must be idle. (A caller reads entry
-// `task % 8`, before the number is tested; of a task that is let through, this is its own.)
-pub fn turn_gate(
-    l: Limits,
-    life: Life,
-    upper: bool,
-    m: Marks,
-    n: usize,
-    task: u32,
-    a: u32,
-    b: u32,
-    e: Task,
-) -> Gate
-    ensures { (result ≡ turn_gate_of (pair_gate_of l life upper m n task a b) e.place) × Paired (pair_gate_of l life upper m n task a b) l upper m n task a b }
+// The entry of a task that may call with two registers or roots: the gate lets it through, and it is idle.
+pub fn turn(t: &Table, n: usize, task: u32, a: u32, b: u32) -> Result<Task, Refusal>
+    ensures given { result ≡ turn_of t.now n task a b }
+    ensures shown { Turned result t.now task a b }
 {
-    let g = gates::pair_gate(l, life, upper, m, n, task, a, b);
-    match g {
-        Gate::Open => {
-            let place = e.place;
-            let idle = tasks::idle(place);
-            if idle {
-                return Gate::Open;
-            }
-            Gate::Shut(Refusal::OutOfTurn)
-        }
-        Gate::Shut(x) => Gate::Shut(x),
+    gates::pair_gate(t, n, task, a, b)?;
+    let e = t.tasks[task as usize];
+    if tasks::idle(e.place) {
+        Ok(e)
+    } else {
+        Err(Refusal::OutOfTurn)
     }
 }
 
-// A flip is asked and not yet made, or the heap is closing.
-pub fn held(l: Limits, upper: bool, on: bool, m: Marks, tasks: [Task; 8]) -> bool
-    requires { (l.h ≤ 8190) × (l.p ≤ 8) }
-    ensures { result ≡ held_of on m (end_of upper l.h) tasks l.p }
+// A flip is asked and not yet made, or the heap is closing. (The limits are those of any table: see crates/gates.)
+#[tactic(auto, unfolding(machine::specs::Tasks::held_of, machine::specs::Tasks::closing_of, machine::specs::Tasks::grey_of, machine::specs::Tasks::seek_of))]
+pub fn held(t: &Table) -> bool
+    requires { (t.now.limits.h ≤ 8190) × (t.now.limits.p ≤ 8) }
+    ensures { result ≡ held_at t.now }
 {
-    let end = gates::end_of(upper, l.h);
-    search::held(on, m, end, tasks, l.p as usize)
+    let end = gates::end_of(t.upper, t.limits.h);
+    search::row_of(t).held(t.on, t.marks, end)
 }
 
 // A pointer is given for a pointer slot, or a plain word for a plain one.
-#[tactic(auto, using(machine::proofs::Rules::tests))]
-pub fn right_kind(v: Operand, slot: u32, m: u32) -> bool
+pub fn right_kind(v: Operand<Primary>, slot: u32, m: u32) -> bool
     ensures { result ≡ same_test (is_pointer v) (ltb slot m) }
 {
-    match v {
-        Operand::Plain(_) => {
-            if slot < m {
-                return false;
-            }
-            true
-        }
-        Operand::Pointer(_) => {
-            if slot < m {
-                return true;
-            }
-            false
-        }
-    }
+    matches!(v, Operand::Pointer(_)) == (slot < m)
 }

@@ -2,88 +2,59 @@
 #![tactic(auto)]
 
 ghost use Rattle.std.specs.Prelude.{◌≡◌, ◌≤◌, ◌<◌, length};
-ghost use Rattle.table.specs.declared.Then.TheVariants.{ToPut};
-ghost use Rattle.table.specs.declared.Place.TheVariants.{Put};
 ghost use Rattle.machine.specs.Bounds.{Fits};
 ghost use Rattle.machine.specs.Deeds.{acted};
-ghost use Rattle.machine.specs.Look.{look_ahead};
 ghost use Rattle.machine.specs.Pay.{take_of, read_of};
 
-use table::{
-    Copied, Copying, Deed, Look, Marks, Object, Operand, Place, Primary, Refusal, Replica, Then,
-};
-
-// A copy whose value is known: a non-nil pointer is looked at.
-#[tactic(auto, using(machine::proofs::Rules::tests))]
-fn put_ahead(v: Operand, n: u32, x: Primary, i: u32) -> Place
-    ensures { result ≡ look_ahead v (ToPut n x i) (Put n x i) }
-{
-    match v {
-        Operand::Plain(w) => Place::Put(n, x, i, Copied::Same(w)),
-        Operand::Pointer(p) => {
-            if p.0 == 0 {
-                return Place::Put(n, x, i, Copied::Renamed(Replica(0)));
-            }
-            Place::Looking(p, Then::ToPut(n, x, i))
-        }
-    }
-}
+use table::{Copying, Deed, Look, Marks, Operand, Place, Primary, Refusal, Slot, Then};
 
 // Pay: the object on top of the stack is popped, and its slot count-1 locked.
-#[tactic(auto, using(machine::proofs::Rules::tests, objects::proofs::Unforwarded::unforwarded), unfolding(machine::specs::Pay::take_of))]
+#[tactic(auto, unfolding(machine::specs::Pay::take_of))]
 pub fn take(m: Marks, words: &mut [u32], s: u32, n: u32) -> Deed
     requires { Fits m m.top (length words.old) × (m.top < length words.old) × (s ≤ 255) }
     ensures { acted result words.new ≡ take_of m words.old s n }
 {
-    let top = m.top;
-    let j = m.j;
-    let p = Primary(words[top as usize]);
-    let seen = objects::look_at(words, s, p);
-    let Look::Forwarded(r, len) = seen else {
+    let p = Primary(words[m.top as usize]);
+    let Look::Forwarded(r, len) = objects::look_at(words, s, p) else {
         return Deed::Fails(Refusal::Damaged);
     };
     let at = r.0 as usize;
-    let h = words[at - 1];
-    let c = objects::copying(len, h);
-    match c {
-        Copying::Count(count) => {
-            if count == 0 {
-                return Deed::Fails(Refusal::Damaged);
-            }
-            words[at - 1] = 256 + (count - 1);
+    match objects::copying(len, words[at - 1]) {
+        Copying::Count(count) if 0 < count => {
+            let job = Slot {
+                object: p,
+                index: count - 1,
+            };
+            words[at - 1] = 256 + job.index;
             Deed::Goes(
                 Marks {
-                    a: m.a,
-                    top: top + 1,
-                    j: j + 1,
-                    copies: m.copies,
+                    top: m.top + 1,
+                    j: m.j + 1,
+                    ..m
                 },
-                Place::Read(n, p, count - 1),
+                Place::Read(n, job),
             )
         }
-        Copying::Locked(_) => Deed::Fails(Refusal::Damaged),
-        Copying::Neither => Deed::Fails(Refusal::Damaged),
+        _ => Deed::Fails(Refusal::Damaged),
     }
 }
 
 // Pay: the primary slot is read.
-#[tactic(auto, using(machine::proofs::Rules::tests), unfolding(machine::specs::Pay::read_of))]
-pub fn read(m: Marks, words: &[u32], s: u32, n: u32, x: Primary, i: u32) -> Deed
-    ensures { acted result words.now ≡ read_of m words.now s n x i }
+#[tactic(auto, unfolding(machine::specs::Pay::read_of))]
+pub fn read(m: Marks, words: &[u32], s: u32, n: u32, job: Slot) -> Deed
+    ensures { acted result words.now ≡ read_of m words.now s n job.object job.index }
 {
-    let o = objects::object_at(words, s, x);
-    let Object::Whole(len, k) = o else {
-        return Deed::Fails(Refusal::Damaged);
-    };
-    if len <= i {
-        return Deed::Fails(Refusal::Damaged);
+    let Slot { object, index } = job;
+    match objects::object_at(words, s, object) {
+        Some(o) if index < o.len => {
+            let w = words[object.0 as usize + index as usize];
+            let v = if index < o.m {
+                Operand::Pointer(Primary(w))
+            } else {
+                Operand::Plain(w)
+            };
+            Deed::Goes(m, look::ahead(v, Then::ToPut(n, job)))
+        }
+        _ => Deed::Fails(Refusal::Damaged),
     }
-    let at = x.0 as usize;
-    let w = words[at + (i as usize)];
-    if i < k {
-        let next = put_ahead(Operand::Pointer(Primary(w)), n, x, i);
-        return Deed::Goes(m, next);
-    }
-    let next = put_ahead(Operand::Plain(w), n, x, i);
-    Deed::Goes(m, next)
 }

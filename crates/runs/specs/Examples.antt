@@ -7,7 +7,7 @@ use Rattle.table.specs.declared.Life.TheVariants.{Living}
 use Rattle.table.specs.declared.Table.{Table}
 use Rattle.table.specs.declared.Answer.TheVariants.{Accepted}
 use Rattle.machine.specs.Numbers.{ok, done, moved, wait, none}
-use Rattle.machine.specs.Words.{primary, descriptor, laid}
+use Rattle.machine.specs.Words.{primary, descriptor, laid, wanted}
 use Rattle.machine.specs.Entries.{keeping, marks_at, task_at, nil, with_place, out, Ends, ends}
 use Rattle.machine.specs.Setup.{limits, fresh_task, fresh_table, unset, setup_of}
 use Rattle.machine.specs.Call.{Call}
@@ -55,7 +55,7 @@ pub rows :
     × (said (new_of_four (bare 1 false (marks_at 61 66 0 0))) ≡ (moved, []))
     × ((new_of_four (bare 1 false (marks_at 61 66 0 0))).out.table.on ≡ true)
     × (said (new_of_four_beside (bare 2 false (marks_at 61 66 0 0))) ≡ (wait, 1 ∷ []))
-    × ((task_at (new_of_four_beside (bare 2 false (marks_at 61 66 0 0))).out.table 0).place ≡ Asked 0 4 0)
+    × ((task_at (new_of_four_beside (bare 2 false (marks_at 61 66 0 0))).out.table 0).place ≡ Asked (wanted 0 4 0))
     -- Collecting, room 12: New of 4 fits; room 11 gives 9. Without a job in hand, and with one.
     × (said (new_of_four (bare 1 true (marks_at 118 130 0 0))) ≡ (moved, []))
     × (said (new_of_four (bare 1 true (marks_at 119 130 0 0))) ≡ (none, 9 ∷ []))

@@ -1,14 +1,13 @@
 -- The promises of a computed run: two tasks, two collections, in each a Store in flight over a locked slot, two switch-overs.
 use Rattle.std.specs.Prelude.{ℕ, ◌≡◌, refl, ◌≢◌, List, [], ◌∷◌, ◌++◌, Bool, true, false, not, length, replicate, eqb}
 use Rattle.table.specs.declared.Limits.{Limits}
-use Rattle.table.specs.declared.Storing.TheVariants.{Slot}
 use Rattle.table.specs.declared.Refusal.TheVariants.{OutOfTurn, Exhausted}
 use Rattle.table.specs.declared.Answer.{Answer}
 use Rattle.table.specs.declared.Answer.TheVariants.{Accepted, Done, Value, Moved, Wait, Report, No}
 use Rattle.machine.specs.Basics.{pick, all_of}
 use Rattle.machine.specs.Numbers.{number_of}
 use Rattle.machine.specs.Words.{primary}
-use Rattle.machine.specs.Entries.{Ends}
+use Rattle.machine.specs.Entries.{Ends, storing_on}
 use Rattle.machine.specs.Gate.{sizes_ok}
 use Rattle.machine.specs.Setup.{limits, unset}
 use Rattle.machine.specs.Call.{Call}
@@ -115,7 +114,7 @@ computed = ((refl, refl), (refl, refl), (refl, refl), (refl, refl), (refl, refl)
 -- The reasons for what the steps answer there: the Store in flight waits for task 1, which has locked its slot; a begin while
 -- closing is refused with 7; task 1's payment ends early, since nothing is grey.
 reasons :
-    MetBy (heap turned_again).out.table (heap turned_again).words 1 (Slot (primary 68) 1)
+    MetBy (heap turned_again).out.table (heap turned_again).words 1 (storing_on (primary 68) 1)
     × Closing (heap closing).out.table
     × NothingGrey (heap closing).out.table
 unfolding opened closing turned_again small ended turned axle dropped

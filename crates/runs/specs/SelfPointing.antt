@@ -1,13 +1,12 @@
 -- 01's example of the object that points to itself, computed: set-up, the calls before, a New that collects.
 use Rattle.std.specs.Prelude.{ℕ, zero, suc, ◌≡◌, refl, List, [], ◌∷◌, ◌++◌, map, false, replicate, take, drop}
-use Rattle.table.specs.declared.Copied.TheVariants.{Same, Renamed}
-use Rattle.table.specs.declared.Pending.TheVariants.{Making}
+use Rattle.table.specs.declared.Operand.TheVariants.{Plain, Pointer}
 use Rattle.table.specs.declared.Then.TheVariants.{ToPut}
 use Rattle.table.specs.declared.Place.{Place}
 use Rattle.table.specs.declared.Place.TheVariants.{Idle, New, Take, Read, Put, Release, Looking}
 use Rattle.machine.specs.Numbers.{done, moved, report, word_of}
-use Rattle.machine.specs.Words.{primary, replica}
-use Rattle.machine.specs.Entries.{task_at, Ends}
+use Rattle.machine.specs.Words.{primary, replica, slot_at, wanted}
+use Rattle.machine.specs.Entries.{task_at, Ends, pending_with}
 use Rattle.machine.specs.Call.{Call}
 use Rattle.machine.specs.Calls.{then, run, answers}
 use Rattle.machine.specs.Sum.{peak}
@@ -48,10 +47,10 @@ places (c ∷ cs) e = (task_at (then c e).out.table 0).place ∷ places cs (then
 -- the places that follow: flip, claim, 4 for slot 1, 5 for slot 0
 abbrev pub flip_claim_copy : List Place
 flip_claim_copy =
-    New 2 4 0
+    New (wanted 2 4 0)
     ∷ Take 2
-    ∷ Read 2 (primary 4) 1 ∷ Put 2 (primary 4) 1 (Same 7) ∷ Release 2 (primary 4) 1 ∷ Take 1
-    ∷ Read 1 (primary 4) 0 ∷ Looking (primary 4) (ToPut 1 (primary 4) 0) ∷ Put 1 (primary 4) 0 (Renamed (replica 68)) ∷ Release 1 (primary 4) 0 ∷ Idle
+    ∷ Read 2 (slot_at (primary 4) 1) ∷ Put 2 (slot_at (primary 4) 1) (Plain 7) ∷ Release 2 (slot_at (primary 4) 1) ∷ Take 1
+    ∷ Read 1 (slot_at (primary 4) 0) ∷ Looking (primary 4) (ToPut 1 (slot_at (primary 4) 0)) ∷ Put 1 (slot_at (primary 4) 0) (Pointer (replica 68)) ∷ Release 1 (slot_at (primary 4) 0) ∷ Idle
     ∷ []
 
 -- 01's example, number by number
@@ -68,7 +67,7 @@ pub self_pointing_lem :
     -- after switch-over: the register, the object's words, the pending pointer, A, the copies, the collector off
     × (register_of collected 0 0 ≡ 68)
     × (take 4 (drop 66 collected.words) ≡ 513 ∷ 0 ∷ 68 ∷ 7 ∷ [])
-    × ((task_at collected.out.table 0).pending ≡ Making (primary 78) 2 4 0)
+    × ((task_at collected.out.table 0).pending ≡ pending_with (primary 78) 2 4 0)
     × (collected.out.table.marks.a ≡ 82)
     × (collected.out.table.marks.copies ≡ 2)
     × (collected.out.table.on ≡ false)

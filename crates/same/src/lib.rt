@@ -1,37 +1,29 @@
 // Same, the call that compares two registers; it completes at once.
 #![tactic(auto)]
 
+ghost use Rattle.std.specs.Prelude.{◌≡◌};
+ghost use Rattle.machine.specs.Complete.{same_of};
 ghost use Rattle.machine.specs.Entries.{ends};
 ghost use Rattle.machine.specs.Call.{Call};
 ghost use Rattle.machine.specs.Calls.{Meets};
+ghost use Rattle.entries.specs.Answered.{answered};
 
-use table::{Answer, Gate, Outcome, Table};
+use table::{Answer, Outcome, Refusal, Table};
 
 // Are two registers the same object: 1, or 0.
-#[tactic(auto, using(opening::proofs::Opens::admitted, opening::proofs::Opens::by_opening), unfolding(machine::specs::Complete::same_of))]
+#[tactic(auto, using(opening::proofs::Opens::by_opening), unfolding(machine::specs::Complete::same_of))]
+fn compared(t: &Table, words: &[u32], task: u32, a: u32, b: u32) -> Result<Answer, Refusal>
+    ensures { answered t.now result ≡ same_of t.now words.now task a b }
+{
+    let e = opening::turn(t, words.len(), task, a, b)?;
+    let p = e.regs[a as usize];
+    let q = e.regs[b as usize];
+    Ok(Answer::Value((p == q) as u32))
+}
+
 pub fn same(t: Table, words: &[u32], task: u32, a: u32, b: u32) -> Outcome
     ensures { Meets (Call.Same task a b) t words.now (ends result words.now) }
 {
-    let u = t;
-    let i = (task % 8) as usize;
-    let e = u.tasks[i];
-    let l = u.limits;
-    let life = u.life;
-    let m = u.marks;
-    let g = opening::turn_gate(l, life, u.upper, m, words.len(), task, a, b, e);
-    if let Gate::Shut(x) = g {
-        return entries::refused(u, x);
-    }
-    let p = entries::register(e, a as usize);
-    let q = entries::register(e, b as usize);
-    if p.0 == q.0 {
-        return Outcome {
-            table: u,
-            answer: Answer::Value(1),
-        };
-    }
-    Outcome {
-        table: u,
-        answer: Answer::Value(0),
-    }
+    let answer = compared(&t, words, task, a, b);
+    entries::answered(t, answer)
 }

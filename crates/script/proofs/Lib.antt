@@ -1,4 +1,2 @@
 pub mod Scan
-pub mod Fields
-pub mod Names
-pub mod Whole
+pub mod Records

@@ -1,180 +1,180 @@
--- A number read byte by byte is the number that its field is.
-use Prim.Native.Nat.{ℕ, suc, ◌+◌, ◌-◌, ◌*◌, ◌≤◌, ◌<◌}
+-- A rest of a line, read byte by byte, is what its fields say.
+use Prim.Native.Nat.{ℕ, zero, suc, ◌+◌, ◌-◌, ◌*◌, ◌≤◌, ◌<◌}
 use native.Mathlib.Omega.{arith}
 use native.Mathlib.Numerals.{add-one}
-use mathlib.Core.Path.{◌≡◌, refl, sym, ap, ◌∙◌}
+use mathlib.Core.Path.{◌≡◌, refl, ◌∙◌}
 use mathlib.Core.List.{List, [], ◌∷◌}
 use mathlib.Core.Bool.{Bool, true, false}
-use lib.ListN.{length, get_or, drop, drop_of_length-le}
-use lib.Seq.{drop-cons}
+use lib.ListN.{length, get_or, take, drop, drop_of_length-le}
+use Rattle.std.proofs.Common.{length-drop}
+use lib.Seq.{drop-cons, take-length}
 use lib.Dec.{ltb, eqb}
-use borrow.Author.Tests.{lt-ltb, le-ltb, eq-eqb, ne_eqb, ltb-true, ltb-false}
+use borrow.Author.Tests.{lt-ltb, le-ltb, eq-eqb, ne_eqb}
+use Rattle.std.specs.Prelude.{Option, Some, None}
 use Rattle.machine.specs.Basics.{pick}
-use Rattle.script.specs.Line.{none, within, digits_from, field_number}
-use Rattle.script.specs.Parts.{front, num_in, num_of}
-use Rattle.script.specs.declared.reader.Num.{Num}
-use Rattle.script.specs.declared.reader.Num.TheVariants.{Good, Bad}
+use Rattle.script.specs.Line.{fields, digit, digits_from, within, before, field_number, field_numbers}
 
 -- a rest of a line, taken apart
 pub next : (l : List ℕ) (i : ℕ) → i < length l → drop i l ≡ get_or l i 0 ∷ drop (i + 1) l
 next l i h = rw (add-one, drop-cons l i 0)
 
--- the digits after the first, as the loop reads them: at index i, with the value v so far
-unfoldable pub more : ℕ → ℕ → List ℕ → Num
-more i v [] = Good v i
-more i v (b ∷ s) =
-    pick (eqb b 9) (Good v i)
-    (pick (ltb b 48) (Bad)
-    (pick (ltb 57 b) (Bad)
-    (pick (ltb 4294967295 (10 * v + (b - 48))) (Bad)
-    (more (i + 1) (10 * v + (b - 48)) s))))
+-- what a slice from index k on is
+rest_of : (k : ℕ) (s : List ℕ) → take (length s - k) (drop k s) ≡ drop k s
+rest_of k s = rw (← length-drop k s) (take-length (drop k s))
+
+-- there is a first field
+pub split : (s : List ℕ) → (f : List ℕ) × (fs : List (List ℕ)) × (fields s ≡ f ∷ fs)
+unfolding fields
+split [] = ([], [], refl)
+split (b ∷ s) = go (eqb b 9) refl (split s)
+  where
+    go : (x : Bool) → eqb b 9 ≡ x → (f : List ℕ) × (fs : List (List ℕ)) × (fields s ≡ f ∷ fs) → (f : List ℕ) × (fs : List (List ℕ)) × (fields (b ∷ s) ≡ f ∷ fs)
+    go true e r = ([], fields s, simp e)
+    go false e r = (b ∷ r.0, r.1, simp (e, r.2))
+
+-- a byte that is no tab stands at the front of the first field
+onto : (b : ℕ) (s f : List ℕ) (fs : List (List ℕ)) → (b ≡ 9 → ⊥) → fields s ≡ f ∷ fs → fields (b ∷ s) ≡ (b ∷ f) ∷ fs
+unfolding fields
+onto b s f fs n e = simp (ne_eqb b 9 n, e)
+
+-- ---- a line without a tab, and one with its first tab at index i
+
+pub whole : (s : List ℕ) → ((k : ℕ) → k < length s → get_or s k 0 ≡ 9 → ⊥) → fields s ≡ s ∷ []
+whole [] n = unfold fields in refl
+whole (b ∷ s) n = onto b s s [] (n 0 (omega arith)) (whole s (λ k h. n (suc k) (omega arith)))
+
+cut_suc : (s : List ℕ) (i : ℕ) → i < length s → get_or s i 0 ≡ 9 → ((k : ℕ) → k < i → get_or s k 0 ≡ 9 → ⊥) → fields s ≡ take i s ∷ fields (drop (suc i) s)
+cut_suc [] i h e n = absurd (omega arith)
+cut_suc (b ∷ s) zero h e n = unfold fields in simp (eq-eqb b 9 e)
+cut_suc (b ∷ s) (suc i) h e n = onto b s (take i s) (fields (drop (suc i) s)) (n 0 (omega arith)) (cut_suc s i (omega arith) e (λ k l. n (suc k) (omega arith)))
+
+pub cut_at : (s : List ℕ) (i : ℕ) → i < length s → get_or s i 0 ≡ 9 → ((k : ℕ) → k < i → get_or s k 0 ≡ 9 → ⊥) → fields s ≡ take i s ∷ fields (take (length s - (i + 1)) (drop (i + 1) s))
+cut_at s i h e n = rw (rest_of (i + 1) s, add-one) (cut_suc s i h e n)
+
+-- ---- the digits of a number
 
 -- a value that is too large stays so
-big : (s : List ℕ) (v : ℕ) → 4294967295 < v → within (digits_from v s) ≡ none
+big : (s : List ℕ) (v : ℕ) → 4294967295 < v → within (digits_from v s) ≡ None
 unfolding digits_from
 big [] v h = rw lt-ltb
 big (b ∷ s) v h = go (ltb b 48) (ltb 57 b) refl refl (big s (10 * v + (b - 48)) (omega arith))
   where
-    go : (x y : Bool) → ltb b 48 ≡ x → ltb 57 b ≡ y → within (digits_from (10 * v + (b - 48)) s) ≡ none → within (digits_from v (b ∷ s)) ≡ none
+    go : (x y : Bool) → ltb b 48 ≡ x → ltb 57 b ≡ y → within (digits_from (10 * v + (b - 48)) s) ≡ None → within (digits_from v (b ∷ s)) ≡ None
     go true y e f ih = simp e
     go false true e f ih = simp (e, f)
     go false false e f ih = simp (e, f, ih)
 
-pub more_is : (s : List ℕ) (i v : ℕ) → v ≤ 4294967295 → more i v s ≡ num_in (i + length (front s)) (within (digits_from v (front s)))
-unfolding more digits_from
-more_is [] i v h = rw le-ltb (ap (Good v) (omega arith))
-more_is (b ∷ s) i v h =
-    go (eqb b 9) (ltb b 48) (ltb 57 b) (ltb 4294967295 (10 * v + (b - 48))) refl refl refl refl (more_is s (i + 1) (10 * v + (b - 48)))
+-- ---- the first field, from its first byte on
+
+bad_first : (s f : List ℕ) (fs : List (List ℕ)) → fields s ≡ f ∷ fs → field_number f ≡ None → field_numbers (fields s) ≡ None
+unfolding field_numbers
+bad_first s f fs e n = rw (e, n) refl
+
+pub bad_empty : (s : List ℕ) → length s < 1 → field_numbers (fields s) ≡ None
+unfolding fields field_numbers field_number
+bad_empty [] h = refl
+bad_empty (b ∷ s) h = absurd (omega arith)
+
+pub bad_low : (s : List ℕ) → 1 ≤ length s → get_or s 0 0 < 48 → field_numbers (fields s) ≡ None
+unfolding fields field_numbers field_number
+bad_low [] h l = absurd (omega arith)
+bad_low (b ∷ s) h l = go (eqb b 9) refl
   where
-    go :
-        (x y z t : Bool) → eqb b 9 ≡ x → ltb b 48 ≡ y → ltb 57 b ≡ z → ltb 4294967295 (10 * v + (b - 48)) ≡ t →
-        (10 * v + (b - 48) ≤ 4294967295 →
-        more (i + 1) (10 * v + (b - 48)) s ≡
-        num_in (i + 1 + length (front s)) (within (digits_from (10 * v + (b - 48)) (front s)))) →
-        more i v (b ∷ s) ≡ num_in (i + length (front (b ∷ s))) (within (digits_from v (front (b ∷ s))))
-    go true y z t e f g k ih = simp (e, le-ltb 4294967295 v h) (ap (Good v) (omega arith))
-    go false true z t e f g k ih = simp (e, f)
-    go false false true t e f g k ih = simp (e, f, g)
-    go false false false true e f g k ih = simp (e, f, g, k, big (front s) (10 * v + (b - 48)) (ltb-true _ _ k))
-    go false false false false e f g k ih =
-        let a : i + 1 + length (front s) ≡ i + suc (length (front s)) = omega arith in
-        simp (e, f, g, k) (ih (ltb-false _ _ k) ∙ ap (λ n. num_in n (within (digits_from (10 * v + (b - 48)) (front s)))) a)
+    z : b ≡ 48 → ⊥
+    z e = omega arith
 
--- ---- the first byte
-
-pub nothing_there : (from : ℕ) → Bad ≡ num_of from []
-unfolding num_of field_number
-nothing_there from = refl
-
-pub zero_last : (from : ℕ) → Good 0 (from + 1) ≡ num_of from (48 ∷ [])
-unfolding num_of field_number
-zero_last from = refl
-
-pub zero_tab : (from : ℕ) (s : List ℕ) → Good 0 (from + 1) ≡ num_of from (48 ∷ 9 ∷ s)
-unfolding num_of field_number
-zero_tab from s = refl
-
-pub zero_more : (from b : ℕ) (s : List ℕ) → (b ≡ 9 → ⊥) → Bad ≡ num_of from (48 ∷ b ∷ s)
-unfolding num_of field_number
-zero_more from b s h = simp (ne_eqb b 9 h)
-
-pub below : (from b : ℕ) (s : List ℕ) → b < 48 → Bad ≡ num_of from (b ∷ s)
-unfolding num_of field_number
-below from b s h = go (eqb b 9) refl
-  where
-    n : b ≡ 48 → ⊥
-    n e = omega arith
-
-    go : (x : Bool) → eqb b 9 ≡ x → Bad ≡ num_of from (b ∷ s)
+    go : (x : Bool) → eqb b 9 ≡ x → field_numbers (fields (b ∷ s)) ≡ None
     go true e = simp e
-    go false e = simp (e, ne_eqb b 48 n, lt-ltb b 48 h)
+    go false e = simp (e, (split s).2, ne_eqb b 48 z, lt-ltb b 48 l)
 
-pub above : (from b : ℕ) (s : List ℕ) → 57 < b → Bad ≡ num_of from (b ∷ s)
-unfolding num_of field_number
-above from b s h =
-    let n : b ≡ 48 → ⊥ = λ e. omega arith in
-    let m : b ≡ 9 → ⊥ = λ e. omega arith in
-    let l : 48 ≤ b = omega arith in
-    simp (ne_eqb b 48 n, ne_eqb b 9 m, le-ltb b 48 l, lt-ltb 57 b h)
+pub bad_high : (s : List ℕ) → 1 ≤ length s → 57 < get_or s 0 0 → field_numbers (fields s) ≡ None
+unfolding field_number
+bad_high [] h l = absurd (omega arith)
+bad_high (b ∷ s) h l =
+    let n : b ≡ 9 → ⊥ = λ e. omega arith in
+    let z : b ≡ 48 → ⊥ = λ e. omega arith in
+    let k : 48 ≤ b = omega arith in
+    let r = split s in
+    bad_first (b ∷ s) (b ∷ r.0) r.1 (onto b s r.0 r.1 n r.2) (simp (ne_eqb b 48 z, le-ltb b 48 k, lt-ltb 57 b l))
 
-pub begins : (from b : ℕ) (s : List ℕ) → (b ≡ 48 → ⊥) → 48 ≤ b → b ≤ 57 → num_of from (b ∷ s) ≡ more (from + 1) (b - 48) s
-unfolding num_of field_number
-begins from b s n l h =
-    let m : b ≡ 9 → ⊥ = λ e. omega arith in
-    let a : from + 1 + length (front s) ≡ from + suc (length (front s)) = omega arith in
-    simp (ne_eqb b 48 n, ne_eqb b 9 m, le-ltb b 48 l, le-ltb 57 b h)
-    (sym (more_is s (from + 1) (b - 48) (omega arith) ∙ ap (λ k. num_in k (within (digits_from (b - 48) (front s)))) a))
+pub bad_zero : (s : List ℕ) → 2 ≤ length s → get_or s 0 0 ≡ 48 → (get_or s 1 0 ≡ 9 → ⊥) → field_numbers (fields s) ≡ None
+unfolding field_number
+bad_zero [] h e n = absurd (omega arith)
+bad_zero (b ∷ []) h e n = absurd (omega arith)
+bad_zero (b ∷ d ∷ s) h e n =
+    let m : b ≡ 9 → ⊥ = λ q. omega arith in
+    let r = split s in
+    bad_first (b ∷ d ∷ s) (b ∷ d ∷ r.0) r.1 (onto b (d ∷ s) (d ∷ r.0) r.1 m (onto d s r.0 r.1 n r.2)) (simp (eq-eqb b 48 e))
 
--- ---- the same, said of a line from an index on
+pub zero_last : (s : List ℕ) → 1 ≤ length s → length s < 2 → get_or s 0 0 ≡ 48 → field_numbers (fields s) ≡ before (Some 0) (field_numbers [])
+unfolding fields field_numbers field_number
+zero_last [] h k e = absurd (omega arith)
+zero_last (b ∷ []) h k e = rw e refl
+zero_last (b ∷ d ∷ s) h k e = absurd (omega arith)
 
-module _ (line : List ℕ) (from : ℕ) where
-  pub at_end : length line ≤ from → Bad ≡ num_of from (drop from line)
-  at_end h = rw (drop_of_length-le line h) (nothing_there from)
+pub zero_tab : (s : List ℕ) → 2 ≤ length s → get_or s 0 0 ≡ 48 → get_or s 1 0 ≡ 9 → field_numbers (fields s) ≡ before (Some 0) (field_numbers (fields (take (length s - 2) (drop 2 s))))
+unfolding fields field_numbers field_number
+zero_tab [] h e k = absurd (omega arith)
+zero_tab (b ∷ []) h e k = absurd (omega arith)
+zero_tab (b ∷ d ∷ s) h e k = rw (e, k, rest_of 2 (b ∷ d ∷ s)) refl
 
-  pub zero_end : from < length line → get_or line from 0 ≡ 48 → length line ≤ from + 1 → Good 0 (from + 1) ≡ num_of from (drop from line)
-  zero_end h e k = rw (next line from h, e, drop_of_length-le line k) (zero_last from)
+-- ---- the first field, after digits of the value v
 
-  pub zero_then : from + 1 < length line → get_or line from 0 ≡ 48 → get_or line (from + 1) 0 ≡ 9 → Good 0 (from + 1) ≡ num_of from (drop from line)
-  zero_then h e t =
-      let k : from < length line = omega arith in
-      rw (next line from k, e, next line (from + 1) h, t) (zero_tab from _)
+-- the numbers of some fields, of which the first goes on with the digits of v
+abbrev pub more : ℕ → List (List ℕ) → Option (List ℕ)
+more v [] = None
+more v (f ∷ fs) = before (within (digits_from v f)) (field_numbers fs)
 
-  pub zero_bad : from + 1 < length line → get_or line from 0 ≡ 48 → (get_or line (from + 1) 0 ≡ 9 → ⊥) → Bad ≡ num_of from (drop from line)
-  zero_bad h e t =
-      let k : from < length line = omega arith in
-      rw (next line from k, e, next line (from + 1) h) (zero_more from _ _ t)
+pub begins : (s : List ℕ) → 1 ≤ length s → 49 ≤ get_or s 0 0 → get_or s 0 0 ≤ 57 → field_numbers (fields s) ≡ more 0 (fields (drop 0 s))
+unfolding field_numbers field_number digits_from
+begins [] h l u = absurd (omega arith)
+begins (b ∷ s) h l u =
+    let n : b ≡ 9 → ⊥ = λ e. omega arith in
+    let z : b ≡ 48 → ⊥ = λ e. omega arith in
+    let k : 48 ≤ b = omega arith in
+    let a : 10 * 0 + (b - 48) ≡ b - 48 = omega arith in
+    let r = split s in
+    rw (onto b s r.0 r.1 n r.2) (simp (ne_eqb b 48 z, le-ltb b 48 k, le-ltb 57 b u, a))
 
-  pub low_bad : from < length line → get_or line from 0 < 48 → Bad ≡ num_of from (drop from line)
-  low_bad h k = rw (next line from h) (below from _ _ k)
+more_byte : (b : ℕ) (s : List ℕ) (v : ℕ) → (b ≡ 9 → ⊥) → more v (fields (b ∷ s)) ≡ pick (digit b) (more (10 * v + (b - 48)) (fields s)) None
+unfolding digits_from
+more_byte b s v n = rw (onto b s (split s).0 (split s).1 n (split s).2, (split s).2) (go (digit b) refl)
+  where
+    f : List ℕ
+    f = (split s).0
 
-  pub high_bad : from < length line → 57 < get_or line from 0 → Bad ≡ num_of from (drop from line)
-  high_bad h k = rw (next line from h) (above from _ _ k)
+    fs : List (List ℕ)
+    fs = (split s).1
 
-  pub loop_begins :
-      (v : ℕ) → from < length line → (get_or line from 0 ≡ 48 → ⊥) → 48 ≤ get_or line from 0 → get_or line from 0 ≤ 57 → v ≡ get_or line from 0 →
-      num_of from (drop from line) ≡ more (from + 1) (v - 48) (drop (from + 1) line)
-  loop_begins v h n l u e = rw (e, next line from h) (begins from _ _ n l u)
+    go : (x : Bool) → digit b ≡ x → before (within (digits_from v (b ∷ f))) (field_numbers fs) ≡ pick (digit b) (before (within (digits_from (10 * v + (b - 48)) f)) (field_numbers fs)) None
+    go true e = simp e
+    go false e = simp e
 
--- one turn of the loop at index i, of what is left to read
-pub turn :
-    (line : List ℕ) (i v : ℕ) → i < length line →
-    more i v (drop i line) ≡
-    pick (eqb (get_or line i 0) 9) (Good v i)
-    (pick (ltb (get_or line i 0) 48) (Bad)
-    (pick (ltb 57 (get_or line i 0)) (Bad)
-    (pick (ltb 4294967295 (10 * v + (get_or line i 0 - 48))) (Bad)
-    (more (i + 1) (10 * v + (get_or line i 0 - 48)) (drop (i + 1) line)))))
-unfolding more
-turn line i v h = rw (next line i h)
+more_big : (s : List ℕ) (v : ℕ) → 4294967295 < v → more v (fields s) ≡ None
+more_big s v h = rw ((split s).2, big (split s).0 v h) refl
 
-module _ (line : List ℕ) (i v : ℕ) (r : Num) (so : r ≡ more i v (drop i line)) where
-  pub ends_here : length line ≤ i → Good v i ≡ r
-  unfolding more
-  ends_here h = sym (so ∙ rw (drop_of_length-le line h))
+module _ (s : List ℕ) (i v : ℕ) (r : Option (List ℕ)) (so : r ≡ more v (fields (drop i s))) where
+  pub ends : length s ≤ i → v ≤ 4294967295 → r ≡ before (Some v) (field_numbers [])
+  unfolding fields digits_from
+  ends h l = so ∙ rw (drop_of_length-le s h) (simp (le-ltb 4294967295 v l))
 
-  pub ends_tab : i < length line → get_or line i 0 ≡ 9 → Good v i ≡ r
-  ends_tab h e = sym (so ∙ turn line i v h ∙ simp (eq-eqb (get_or line i 0) 9 e))
+  pub ends_tab : i < length s → get_or s i 0 ≡ 9 → v ≤ 4294967295 → r ≡ before (Some v) (field_numbers (fields (take (length s - (i + 1)) (drop (i + 1) s))))
+  unfolding fields digits_from
+  ends_tab h e l = so ∙ rw (next s i h, e, rest_of (i + 1) s) (simp (le-ltb 4294967295 v l))
 
-  pub ends_low : i < length line → (get_or line i 0 ≡ 9 → ⊥) → get_or line i 0 < 48 → Bad ≡ r
-  ends_low h n l = sym (so ∙ turn line i v h ∙ simp (ne_eqb (get_or line i 0) 9 n, lt-ltb (get_or line i 0) 48 l))
+  pub low : i < length s → (get_or s i 0 ≡ 9 → ⊥) → get_or s i 0 < 48 → r ≡ None
+  low h n l = so ∙ rw (next s i h, more_byte (get_or s i 0) (drop (i + 1) s) v n) (simp (lt-ltb (get_or s i 0) 48 l))
 
-  pub ends_high : i < length line → 57 < get_or line i 0 → Bad ≡ r
-  ends_high h u =
-      let n : get_or line i 0 ≡ 9 → ⊥ = λ e. omega arith in
-      let l : 48 ≤ get_or line i 0 = omega arith in
-      sym (so ∙ turn line i v h ∙ simp (ne_eqb (get_or line i 0) 9 n, le-ltb (get_or line i 0) 48 l, lt-ltb 57 (get_or line i 0) u))
+  pub high : i < length s → 57 < get_or s i 0 → r ≡ None
+  high h l =
+      let n : get_or s i 0 ≡ 9 → ⊥ = λ e. omega arith in
+      let m : 48 ≤ get_or s i 0 = omega arith in
+      so ∙ rw (next s i h, more_byte (get_or s i 0) (drop (i + 1) s) v n) (simp (le-ltb (get_or s i 0) 48 m, lt-ltb 57 (get_or s i 0) l))
 
-  module _ (w : ℕ) (h : i < length line) (l : 48 ≤ get_or line i 0) (u : get_or line i 0 ≤ 57) (e : w ≡ 10 * v + (get_or line i 0 - 48)) where
-    n : get_or line i 0 ≡ 9 → ⊥
-    n a = omega arith
+  pub goes_on : (w : ℕ) → i < length s → 48 ≤ get_or s i 0 → get_or s i 0 ≤ 57 → w ≡ 10 * v + (get_or s i 0 - 48) → r ≡ more w (fields (drop (i + 1) s))
+  goes_on w h l u e =
+      let n : get_or s i 0 ≡ 9 → ⊥ = λ q. omega arith in
+      so ∙ rw (next s i h, more_byte (get_or s i 0) (drop (i + 1) s) v n) (simp (le-ltb (get_or s i 0) 48 l, le-ltb 57 (get_or s i 0) u, e))
 
-    pub ends_large : 4294967295 < w → Bad ≡ r
-    ends_large k =
-        sym
-        (so ∙ turn line i v h ∙
-        simp (ne_eqb (get_or line i 0) 9 n, le-ltb (get_or line i 0) 48 l, le-ltb 57 (get_or line i 0) u, ← e, lt-ltb 4294967295 w k))
-
-    pub goes_on : w ≤ 4294967295 → r ≡ more (i + 1) w (drop (i + 1) line)
-    goes_on k =
-        so ∙ turn line i v h ∙
-        simp (ne_eqb (get_or line i 0) 9 n, le-ltb (get_or line i 0) 48 l, le-ltb 57 (get_or line i 0) u, ← e, le-ltb 4294967295 w k)
+  pub too_large : (w : ℕ) → i < length s → 48 ≤ get_or s i 0 → get_or s i 0 ≤ 57 → w ≡ 10 * v + (get_or s i 0 - 48) → 4294967295 < w → r ≡ None
+  too_large w h l u e k = goes_on w h l u e ∙ more_big (drop (i + 1) s) w k

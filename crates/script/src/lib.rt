@@ -7,12 +7,12 @@ ghost use Rattle.script.specs.Line.{line_of};
 
 mod reader;
 
-use reader::Name;
+// No record has more numbers.
+const MOST_NUMBERS: usize = 4;
 
-// What a line says: the record of 01 with its numbers in their order, or that it cannot be read.
-#[derive(Drop)]
+// What a line says: the record of 01 with its numbers in their order.
+#[derive(Clone, Copy)]
 pub enum Said {
-    Unreadable,
     // P, S, H, k
     Setup(u32, u32, u32, u32),
     // task, register, L, m
@@ -42,13 +42,24 @@ pub enum Said {
     Report,
 }
 
-// What a line says; the line is without its newline.
-#[tactic(auto, using(crate::proofs::Whole::no_name, crate::proofs::Whole::name_end))]
-pub fn read_line(line: &[u8]) -> Said
+// What a line says, if it can be read; the line is without its newline.
+#[tactic(auto, using(crate::proofs::Records::befores_on, crate::proofs::Records::stuck, crate::proofs::Records::ended, crate::proofs::Records::crowded))]
+pub fn read_line(line: &[u8]) -> Option<Said>
     ensures { result ≡ line_of line.now }
 {
-    let Name::Short(code, end) = reader::name_of(line) else {
-        return Said::Unreadable;
-    };
-    reader::record_at(line, end, code)
+    let (name, mut rest) = reader::cut(line);
+    let mut numbers = [0; MOST_NUMBERS];
+    // Counted by hand: written through `get_mut`, or through the `next` of an `iter_mut`, a proof knows no more what the array holds;
+    // and no `for` fits, since the fields are read one behind the other.
+    let mut n = 0;
+    while let Some(fields) = rest {
+        if n == MOST_NUMBERS {
+            return None;
+        }
+        let (number, more) = reader::number(fields)?;
+        numbers[n] = number;
+        n += 1;
+        rest = more;
+    }
+    reader::record(name, &numbers[..n])
 }

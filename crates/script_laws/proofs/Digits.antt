@@ -6,18 +6,19 @@ use mathlib.Core.List.{List, [], ◌∷◌, ◌++◌}
 use mathlib.Core.Bool.{Bool, true, false}
 use lib.Dec.{ltb}
 use borrow.Author.Tests.{le-ltb, ne_eqb, ltb-true, ltb-false}
-use Rattle.script.specs.Line.{none, some, digit, digits_from, field_number}
+use Rattle.std.specs.Prelude.{Option, Some, None}
+use Rattle.script.specs.Line.{digit, digits_from, field_number}
 use Rattle.answers.specs.Text.{spelled, decimal}
 
-pub not_none : (n : ℕ) → none ≡ some n → ⊥
-not_none n e = let z : ◌≡◌ {A = ℕ} 0 1 = cc in omega arith
+pub not_none : {A : Type 0} (x : A) → ◌≡◌ {A = Option A} None (Some x) → ⊥
+not_none x e = cc
 
 -- the first of the digits left
-pub first_digit : (b : ℕ) (s : List ℕ) (v n : ℕ) → digits_from v (b ∷ s) ≡ some n → (digit b ≡ true) × (digits_from (10 * v + (b - 48)) s ≡ some n)
+pub first_digit : (b : ℕ) (s : List ℕ) (v n : ℕ) → digits_from v (b ∷ s) ≡ Some n → (digit b ≡ true) × (digits_from (10 * v + (b - 48)) s ≡ Some n)
 unfolding digits_from
 first_digit b s v n e = go (digit b) refl
   where
-    go : (x : Bool) → digit b ≡ x → (digit b ≡ true) × (digits_from (10 * v + (b - 48)) s ≡ some n)
+    go : (x : Bool) → digit b ≡ x → (digit b ≡ true) × (digits_from (10 * v + (b - 48)) s ≡ Some n)
     go true f = (f, simp f at e)
     go false f = absurd (not_none n (simp f at e))
 
@@ -28,10 +29,10 @@ record Stands (n : ℕ) (s : List ℕ) : Type 0 where
   made : s ≡ first ∷ rest
   low : 48 < first
   high : first ≤ 57
-  value : digits_from (first - 48) rest ≡ some n
+  value : digits_from (first - 48) rest ≡ Some n
 
 -- digits, and one more
-digits_snoc : (s : List ℕ) (v n d : ℕ) → d < 10 → digits_from v s ≡ some n → digits_from v (s ++ ((48 + d) ∷ [])) ≡ some (10 * n + d)
+digits_snoc : (s : List ℕ) (v n d : ℕ) → d < 10 → digits_from v s ≡ Some n → digits_from v (s ++ ((48 + d) ∷ [])) ≡ Some (10 * n + d)
 unfolding digits_from
 digits_snoc [] v n d h e =
     let a : v ≡ n = cc in
@@ -49,7 +50,7 @@ stands (suc k) n l h = go (ltb n 10) refl (stands k (n / 10))
     go : (x : Bool) → ltb n 10 ≡ x → (0 < n / 10 → n / 10 < k → Stands (n / 10) (spelled k (n / 10))) → Stands n (spelled (suc k) n)
     go true e ih =
         let m : n < 10 = ltb-true _ _ e in
-        record { first = 48 + n; rest = []; made = simp e; low = omega arith; high = omega arith; value = ap some (omega arith) }
+        record { first = 48 + n; rest = []; made = simp e; low = omega arith; high = omega arith; value = ap Some (omega arith) }
     go false e ih =
         let m : 10 ≤ n = ltb-false _ _ e in
         let s = ih (omega arith) (omega arith) in
@@ -60,17 +61,17 @@ stands (suc k) n l h = go (ltb n 10) refl (stands k (n / 10))
           made = simp e (ap (λ (t : List ℕ). t ++ ((48 + n % 10) ∷ [])) s.made);
           low = s.low;
           high = s.high;
-          value = digits_snoc s.rest (s.first - 48) (n / 10) (n % 10) (omega arith) s.value ∙ ap some a;
+          value = digits_snoc s.rest (s.first - 48) (n / 10) (n % 10) (omega arith) s.value ∙ ap Some a;
         }
 
-reads_digits : (b : ℕ) (t : List ℕ) (n : ℕ) → 48 < b → b ≤ 57 → digits_from (b - 48) t ≡ some n → n ≤ 4294967295 → field_number (b ∷ t) ≡ some n
+reads_digits : (b : ℕ) (t : List ℕ) (n : ℕ) → 48 < b → b ≤ 57 → digits_from (b - 48) t ≡ Some n → n ≤ 4294967295 → field_number (b ∷ t) ≡ Some n
 unfolding field_number
 reads_digits b t n l u e h =
     let x : b ≡ 48 → ⊥ = λ q. omega arith in
     simp (ne_eqb b 48 x, le-ltb b 48 (omega arith), le-ltb 57 b u, e, le-ltb 4294967295 n h)
 
 -- the digits of a number are read back as that number
-pub reads_back : (n : ℕ) → n ≤ 4294967295 → field_number (decimal n) ≡ some n
+pub reads_back : (n : ℕ) → n ≤ 4294967295 → field_number (decimal n) ≡ Some n
 unfolding decimal
 reads_back zero h = unfold field_number spelled in refl
 reads_back (suc m) h =

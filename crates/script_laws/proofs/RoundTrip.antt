@@ -6,9 +6,10 @@ use mathlib.Core.Path.{◌≡◌, refl, ap, ◌∙◌}
 use mathlib.Core.List.{List, [], ◌∷◌, ◌++◌, append-nil, map}
 use mathlib.Core.Bool.{true}
 use Rattle.machine.specs.Call.{Call, New, Fill, FillPointer, Load, Store, StorePointer, Move, Clear, Same, Put, Get, Step, Report}
-use Rattle.script.specs.Line.{fields, numbers, field_numbers, ascii, name_is, record_by, line_of, default_rate}
+use Rattle.script.specs.Line.{fields, field_numbers, ascii, name_is, record_by, line_of, default_rate}
 use Rattle.answers.specs.Text.{decimal}
 use Rattle.script.specs.declared.Said.TheVariants as said
+use Rattle.std.specs.Prelude.{Some}
 use Rattle.script_laws.specs.Calls.{tabbed, record_for, Small, name_for, numbers_for, line_for, said_for, setup_line, short_setup_line}
 use Rattle.script_laws.specs.Lines.{lacks}
 use Rattle.script_laws.proofs.Digits.{reads_back}
@@ -36,7 +37,7 @@ fields_of f [] h = ap fields (append-nil f) ∙ last_field f h
 fields_of f (n ∷ ns) h =
     field_tab f (decimal n ++ tabbed ns) h ∙ ap (λ (fs : List (List ℕ)). f ∷ fs) (fields_of (decimal n) ns (decimal_lacks 9 n (omega arith)))
 
-numbers_of : (ns : List ℕ) → Small ns → field_numbers (map decimal ns) ≡ numbers ns
+numbers_of : (ns : List ℕ) → Small ns → field_numbers (map decimal ns) ≡ Some ns
 unfolding field_numbers
 numbers_of [] h = refl
 numbers_of (n ∷ ns) h = simp (reads_back n h.0, numbers_of ns h.1)
@@ -47,10 +48,10 @@ pub line_back : (name : String) (ns : List ℕ) → lacks 9 (ascii name) ≡ tru
 unfolding line_of
 line_back name ns h k = simp (fields_of (ascii name) ns h, numbers_of ns k)
 
-back : (c : Call) → lacks 9 (ascii (name_for c)) ≡ true → Small (numbers_for c) → record_by (name_is (ascii (name_for c))) (numbers_for c) ≡ said_for c → line_of (line_for c) ≡ said_for c
+back : (c : Call) → lacks 9 (ascii (name_for c)) ≡ true → Small (numbers_for c) → record_by (name_is (ascii (name_for c))) (numbers_for c) ≡ Some (said_for c) → line_of (line_for c) ≡ Some (said_for c)
 back c l h e = line_back (name_for c) (numbers_for c) l h ∙ e
 
-pub call_back : (c : Call) → Small (numbers_for c) → line_of (line_for c) ≡ said_for c
+pub call_back : (c : Call) → Small (numbers_for c) → line_of (line_for c) ≡ Some (said_for c)
 unfolding record_by
 call_back (New task register len m) h = back (New task register len m) refl h refl
 call_back (Fill task word) h = back (Fill task word) refl h refl
@@ -66,10 +67,10 @@ call_back (Get task register root) h = back (Get task register root) refl h refl
 call_back (Step task) h = back (Step task) refl h refl
 call_back Report h = back Report refl h refl
 
-pub setup_back : (p s h k : ℕ) → Small (p ∷ s ∷ h ∷ k ∷ []) → line_of (setup_line p s h k) ≡ said.Setup p s h k
+pub setup_back : (p s h k : ℕ) → Small (p ∷ s ∷ h ∷ k ∷ []) → line_of (setup_line p s h k) ≡ Some (said.Setup p s h k)
 unfolding record_by
 setup_back p s h k l = line_back "setup" (p ∷ s ∷ h ∷ k ∷ []) refl l
 
-pub setup_default_back : (p s h : ℕ) → Small (p ∷ s ∷ h ∷ []) → line_of (short_setup_line p s h) ≡ said.Setup p s h default_rate
+pub setup_default_back : (p s h : ℕ) → Small (p ∷ s ∷ h ∷ []) → line_of (short_setup_line p s h) ≡ Some (said.Setup p s h default_rate)
 unfolding record_by
 setup_default_back p s h l = line_back "setup" (p ∷ s ∷ h ∷ []) refl l

@@ -1,92 +1,84 @@
-// The searches over the tasks, and what is asked of all of them.
+// The searches over the entries of the P tasks, and what is asked of all of them.
 #![tactic(auto)]
 
-ghost use Rattle.std.specs.Prelude.{◌≡◌, ◌≤◌};
-ghost use Rattle.machine.specs.Tasks.{seek_of, some, slot_taken, grey_of, held_of};
+ghost use Rattle.std.specs.Prelude.{◌≡◌, ◌≤◌, ℕ, Bool, length, take};
+ghost use Rattle.table.specs.declared.Task.{Task};
+ghost use Rattle.machine.specs.Tasks.{lowest_of};
+ghost use Rattle.search.specs.Among.{Computes, seek_in, any_in, taken_in, grey_in, held_in};
 
-use table::{Found, Marks, Primary, Sought, Task};
+use table::{Marks, Slot, Sought, Table, Task};
 
-// The lowest-numbered task that is sought: a loop left by a break with the found task.
-#[tactic(auto, using(crate::proofs::Search::nobody, crate::proofs::Search::found, crate::proofs::Search::passed), unfolding(machine::specs::Tasks::seek_of))]
-pub fn seek(tasks: [Task; 8], p: usize, w: Sought) -> Found
-    requires { p ≤ 8 }
-    ensures { result ≡ seek_of tasks p w }
+// The entries of the P tasks.
+#[derive(Clone, Copy)]
+pub struct Row<'t> {
+    pub tasks: &'t [Task],
+    pub ghost few: { length tasks.now ≤ 8 },
+}
+
+pub fn row_of(t: &Table) -> Row<'_>
+    requires { t.now.limits.p ≤ 8 }
+    ensures { result.tasks.now ≡ take t.now.limits.p t.now.tasks }
 {
-    let mut i: usize = 0;
-    loop {
-        if i >= p {
-            break Found::Nobody;
-        }
-        let e = tasks[i];
-        let b = tasks::task_sought(w, i as u32, e);
-        if b {
-            break Found::At(i as u32);
-        }
-        i = i + 1;
+    Row {
+        tasks: &t.tasks[..t.limits.p as usize],
     }
 }
 
-// Whether there is such a task.
-pub fn any(tasks: [Task; 8], p: usize, w: Sought) -> bool
-    requires { p ≤ 8 }
-    ensures { result ≡ some tasks p w }
-{
-    let f = seek(tasks, p, w);
-    match f {
-        Found::At(_) => true,
-        Found::Nobody => false,
-    }
-}
-
-// Another task's unfinished Store is on this object and slot.
-#[tactic(auto, using(crate::proofs::Search::nobody, crate::proofs::Search::found, crate::proofs::Search::passed), unfolding(machine::specs::Tasks::slot_taken))]
-pub fn slot_taken(tasks: [Task; 8], p: usize, me: u32, y: Primary, k: u32) -> bool
-    requires { p ≤ 8 }
-    ensures { result ≡ slot_taken tasks p me y k }
-{
-    let mut i: usize = 0;
-    loop {
-        if i >= p {
-            break false;
+impl<'t> Row<'t> {
+    // The lowest-numbered task of which the test holds: a loop left by a break with the found task, as 01 lays it down
+    // (`position` has no break).
+    #[tactic(auto, using(crate::proofs::Search::nobody, crate::proofs::Search::found, crate::proofs::Search::passed))]
+    fn find<F: Fn(u32, &Task) -> bool>(self, test: F) -> Option<u32>
+        requires { F.IsAlwaysCallable test }
+        ensures { (says : ℕ → Task → Bool) → Computes F.Fn test says → result ≡ lowest_of says self.entry.tasks.now 0 }
+    {
+        'search: {
+            for (i, e) in self.tasks.iter().enumerate() {
+                if test(i as u32, e) {
+                    break 'search Some(i as u32);
+                }
+            }
+            None
         }
-        let e = tasks[i];
-        let b = tasks::store_there(me, y, k, i as u32, e);
-        if b {
-            break true;
-        }
-        i = i + 1;
     }
-}
 
-// Something is on the stack, in hand, or claimed and not yet placed.
-#[tactic(auto, using(machine::proofs::Rules::tests), unfolding(machine::specs::Tasks::grey_of))]
-pub fn grey(m: Marks, end: u32, tasks: [Task; 8], p: usize) -> bool
-    requires { p ≤ 8 }
-    ensures { result ≡ grey_of m end tasks p }
-{
-    let top = m.top;
-    let j = m.j;
-    if top < end {
-        return true;
+    // The lowest-numbered task that is sought.
+    pub fn seek(self, w: Sought) -> Option<u32>
+        ensures { result ≡ seek_in self.entry.tasks.now w }
+    {
+        self.find(|i, e| tasks::task_sought(w, i, e))
     }
-    if 0 < j {
-        return true;
-    }
-    any(tasks, p, Sought::Claiming)
-}
 
-// A flip is asked and not yet made, or the heap is closing.
-#[tactic(auto, using(machine::proofs::Rules::tests), unfolding(machine::specs::Tasks::held_of, machine::specs::Tasks::closing_of))]
-pub fn held(on: bool, m: Marks, end: u32, tasks: [Task; 8], p: usize) -> bool
-    requires { p ≤ 8 }
-    ensures { result ≡ held_of on m end tasks p }
-{
-    if on {
-        let g = grey(m, end, tasks, p);
-        if g {
-            return false;
-        }
-        return any(tasks, p, Sought::Busy);
+    // Whether there is such a task.
+    pub fn any(self, w: Sought) -> bool
+        ensures { result ≡ any_in self.entry.tasks.now w }
+    {
+        self.seek(w).is_some()
     }
-    any(tasks, p, Sought::Asking)
+
+    // Another task's unfinished Store is on this slot.
+    pub fn slot_taken(self, me: u32, slot: Slot) -> bool
+        ensures { result ≡ taken_in self.entry.tasks.now me slot }
+    {
+        self.find(|i, e| tasks::store_there(me, slot, i, e))
+            .is_some()
+    }
+
+    // Something is on the stack, in hand, or claimed and not yet placed.
+    pub fn grey(self, m: Marks, end: u32) -> bool
+        ensures { result ≡ grey_in m end self.entry.tasks.now }
+    {
+        m.top < end || 0 < m.j || self.any(Sought::Claiming)
+    }
+
+    // A flip is asked and not yet made, or the heap is closing.
+    pub fn held(self, on: bool, m: Marks, end: u32) -> bool
+        ensures { result ≡ held_in on m end self.entry.tasks.now }
+    {
+        if on {
+            !self.grey(m, end) && self.any(Sought::Busy)
+        } else {
+            self.any(Sought::Asking)
+        }
+    }
 }

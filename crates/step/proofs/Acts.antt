@@ -1,4 +1,5 @@
 -- A task's step as the machine defines it is what its act makes of the table.
+use Rattle.std.specs.Prelude.{Some}
 use mathlib.Core.Path.{◌≡◌, refl, sym, ◌∙◌, ap}
 use Prim.Native.Nat.{ℕ}
 use mathlib.Core.List.{List}
@@ -36,7 +37,7 @@ settled_four t i false true false p q r s = refl
 settled_four t i false false c p q r s = refl
 
 abbrev pub act_of : Table → List ℕ → ℕ → Came
-act_of t ws i = task_act t.on t.limits t.marks (end_of t.upper t.limits.h) ws (task_at t i)
+act_of t ws i = task_act t ws (task_at t i)
 
 pub task_settles : (t : Table) (ws : List ℕ) (i : ℕ) → task_step_of t ws i ≡ settled t i (act_of t ws i)
 unfolding task_step_of task_act
@@ -53,7 +54,6 @@ pub step_whole : (t : Table) (ws new : List ℕ) (i : ℕ) (a : Act) → came a 
 unfolding settled
 step_whole t ws new i a e = ap (λ x. settled t i x) e ∙ sym (task_settles t ws i)
 
--- and one whose act is plain, by what it leaves
-pub step_plain : (t : Table) (ws new : List ℕ) (i : ℕ) (a : Act) (n : After) → came a new ≡ act_of t ws i → n ≡ act_after t i a → n.plain ≡ true → leaves t new i n ≡ task_step_of t ws i
-step_plain t ws new i a n e f h =
-    ap (λ k. leaves t new i k) f ∙ sym (plain_act t new i a (ap (λ k. k.plain) (sym f) ∙ h)) ∙ step_whole t ws new i a e
+-- and one whose act leaves something, by that
+pub step_plain : (t : Table) (ws new : List ℕ) (i : ℕ) (a : Act) (n : After) → came a new ≡ act_of t ws i → Some n ≡ act_after t i a → leaves t new i n ≡ task_step_of t ws i
+step_plain t ws new i a n e f = sym (plain_act t new i n a (sym f)) ∙ step_whole t ws new i a e

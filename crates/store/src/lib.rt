@@ -2,58 +2,31 @@
 #![tactic(auto)]
 
 ghost use Rattle.std.specs.Prelude.{◌≡◌};
-ghost use Rattle.table.specs.declared.Then.TheVariants.{ToStoreCopy};
-ghost use Rattle.table.specs.declared.Place.TheVariants.{StoreCopy};
 ghost use Rattle.machine.specs.Deeds.{acted};
-ghost use Rattle.machine.specs.Look.{look_ahead};
 ghost use Rattle.machine.specs.Store.{store_write_of, unmet_case, meet_of, store_copy_of};
 
 use table::{
-    Copied, Copying, Deed, Look, Marks, Object, Operand, Place, Primary, Refusal, Replica, Sought,
-    Storing, Then,
+    Copying, Deed, Look, Marks, Operand, Place, Primary, Refusal, Replica, Slot, Sought, Then,
 };
 
-// A Store whose value is known: a non-nil pointer is looked at.
-#[tactic(auto, using(machine::proofs::Rules::tests))]
-fn store_ahead(v: Operand) -> Place
-    ensures { result ≡ look_ahead v ToStoreCopy StoreCopy }
-{
-    match v {
-        Operand::Plain(w) => Place::StoreCopy(Copied::Same(w)),
-        Operand::Pointer(p) => {
-            if p.0 == 0 {
-                return Place::StoreCopy(Copied::Renamed(Replica(0)));
-            }
-            Place::Looking(p, Then::ToStoreCopy)
-        }
-    }
-}
-
 // Store: the primary slot is written; off, the Store ends.
-#[tactic(auto, using(machine::proofs::Rules::tests), unfolding(machine::specs::Store::store_write_of))]
+#[tactic(auto, unfolding(machine::specs::Store::store_write_of, look::specs::Slots::written_of))]
 pub fn store_write(
     on: bool,
     m: Marks,
     words: &mut [u32],
     s: u32,
-    storing: Storing,
-    v: Operand,
+    storing: Option<Slot>,
+    v: Operand<Primary>,
 ) -> Deed
     ensures { acted result words.new ≡ store_write_of on m words.old s storing v }
 {
-    let Storing::Slot(x, i) = storing else {
+    let Some(at) = storing else {
         return Deed::Fails(Refusal::Damaged);
     };
-    let o = objects::object_at(words, s, x);
-    let Object::Whole(len, _) = o else {
-        return Deed::Fails(Refusal::Damaged);
-    };
-    if len <= i {
+    if !look::write_slot(words, s, at, v) {
         return Deed::Fails(Refusal::Damaged);
     }
-    let w = objects::operand_word(v);
-    let at = x.0 as usize;
-    words[at + (i as usize)] = w;
     if on {
         return Deed::Goes(m, Place::Meet(v));
     }
@@ -67,58 +40,53 @@ fn unmet(m: Marks, k: u32, x: Primary, seen: Look) -> Deed
     match seen {
         Look::White(_) => Deed::Goes(m, Place::Take(k)),
         Look::Claimed => Deed::Waits(Sought::Claimer(x)),
-        Look::Forwarded(_, _) => Deed::Fails(Refusal::Damaged),
-        Look::Lost => Deed::Fails(Refusal::Damaged),
+        Look::Forwarded(_, _) | Look::Lost => Deed::Fails(Refusal::Damaged),
     }
 }
 
 // Store: meet the copier.
-#[tactic(auto, using(machine::proofs::Rules::tests, objects::proofs::Unforwarded::unforwarded), unfolding(machine::specs::Store::meet_of))]
-pub fn meet(m: Marks, words: &[u32], s: u32, k: u32, storing: Storing, v: Operand) -> Deed
+#[tactic(auto, unfolding(machine::specs::Store::meet_of))]
+pub fn meet(
+    m: Marks,
+    words: &[u32],
+    s: u32,
+    k: u32,
+    storing: Option<Slot>,
+    v: Operand<Primary>,
+) -> Deed
     ensures { acted result words.now ≡ meet_of m words.now s k storing v }
 {
-    let Storing::Slot(x, i) = storing else {
+    let Some(at) = storing else {
         return Deed::Fails(Refusal::Damaged);
     };
-    let seen = objects::look_at(words, s, x);
+    let seen = objects::look_at(words, s, at.object);
     let Look::Forwarded(r, len) = seen else {
-        return unmet(m, k, x, seen);
+        return unmet(m, k, at.object, seen);
     };
-    let h = words[(r.0 as usize) - 1];
-    let c = objects::copying(len, h);
-    match c {
-        Copying::Count(_) => {
-            let next = store_ahead(v);
-            Deed::Goes(m, next)
-        }
-        Copying::Locked(l) => {
-            if l == i {
-                return Deed::Waits(Sought::Holder(x, i));
-            }
-            let next = store_ahead(v);
-            Deed::Goes(m, next)
-        }
+    match objects::copying(len, words[r.0 as usize - 1]) {
+        Copying::Locked(i) if i == at.index => Deed::Waits(Sought::Holder(at)),
+        Copying::Count(_) | Copying::Locked(_) => Deed::Goes(m, look::ahead(v, Then::ToStoreCopy)),
         Copying::Neither => Deed::Fails(Refusal::Damaged),
     }
 }
 
 // Store: the slot of the replica is written; then pay k.
-#[tactic(auto, using(machine::proofs::Rules::tests, objects::proofs::Unforwarded::unforwarded), unfolding(machine::specs::Store::store_copy_of))]
-pub fn store_copy(m: Marks, words: &mut [u32], s: u32, k: u32, storing: Storing, c: Copied) -> Deed
+#[tactic(auto, unfolding(machine::specs::Store::store_copy_of, look::specs::Slots::copied_of))]
+pub fn store_copy(
+    m: Marks,
+    words: &mut [u32],
+    s: u32,
+    k: u32,
+    storing: Option<Slot>,
+    c: Operand<Replica>,
+) -> Deed
     ensures { acted result words.new ≡ store_copy_of m words.old s k storing c }
 {
-    let Storing::Slot(x, i) = storing else {
+    let Some(at) = storing else {
         return Deed::Fails(Refusal::Damaged);
     };
-    let seen = objects::look_at(words, s, x);
-    let Look::Forwarded(r, len) = seen else {
-        return Deed::Fails(Refusal::Damaged);
-    };
-    if len <= i {
+    if !look::write_copy(words, s, at, c) {
         return Deed::Fails(Refusal::Damaged);
     }
-    let w = objects::copied_word(c);
-    let at = r.0 as usize;
-    words[at + (i as usize)] = w;
     Deed::Goes(m, Place::Take(k))
 }

@@ -4,127 +4,88 @@
 ghost use Rattle.std.specs.Prelude.{◌≡◌, ◌≤◌, ◌<◌, set};
 ghost use Rattle.machine.specs.Entries.{ends};
 ghost use Rattle.machine.specs.Switch.{switch_of, switch_due, ended_entry, finish_of};
+ghost use Rattle.switch.specs.Capped.{Capped};
 
-use table::{
-    Answer, Marks, Outcome, Pending, Place, Primary, Refusal, Sought, Storing, Table, Task,
-};
+use table::{Answer, Making, Marks, Outcome, Place, Primary, Refusal, Sought, Table, Task};
 
 // t, the table after the action, switched over; or `came`, the table before it, dead for a pointer without replica.
 #[tactic(auto, unfolding(machine::specs::Switch::switch_of))]
-fn switch_over(came: Table, t: Table, words: &[u32], x: Answer) -> Outcome
+fn switch_over(came: Table, t: Table, words: &[u32], answer: Answer) -> Outcome
     requires { t.limits.p ≤ 8 }
-    ensures { result ≡ switch_of came t words.now x }
+    ensures { result ≡ switch_of came t words.now answer }
 {
     let l = t.limits;
-    let s = l.s;
-    let p = l.p as usize;
-    let olds = t.roots;
-    let ts = t.tasks;
-    let a = renames::roots(words, s, olds);
-    if a.good {
-        let b = renames::all_entries(words, s, p, ts);
-        if b.good {
-            let qs = a.qs;
-            let es = b.tasks;
-            return Outcome {
-                table: Table {
-                    on: false,
-                    roots: qs,
-                    tasks: es,
-                    ..t
-                },
-                answer: x,
-            };
-        }
-        return entries::refused(came, Refusal::Damaged);
+    if let Some(roots) = renames::pointers(words, l.s, t.roots)
+        && let Some(tasks) = renames::all_entries(words, l.s, l.p as usize, t.tasks)
+    {
+        return Outcome {
+            table: Table {
+                on: false,
+                roots,
+                tasks,
+                ..t
+            },
+            answer,
+        };
     }
     entries::refused(came, Refusal::Damaged)
 }
 
 // The collector on, nothing grey and all tasks idle.
-#[tactic(auto, unfolding(machine::specs::Switch::switch_due))]
-fn switch_due(t: Table) -> bool
-    requires { (t.limits.p ≤ 8) × (t.limits.h ≤ 8190) }
-    ensures { result ≡ switch_due t }
+#[tactic(auto, unfolding(machine::specs::Switch::switch_due, machine::specs::Tasks::grey_of, machine::specs::Tasks::seek_of))]
+fn switch_due(t: &Table) -> bool
+    requires { Capped t.now.limits }
+    ensures { result ≡ switch_due t.now }
 {
-    let l = t.limits;
-    let m = t.marks;
-    let ts = t.tasks;
-    let p = l.p as usize;
-    if t.on {
-        let end = gates::end_of(t.upper, l.h);
-        let g = search::grey(m, end, ts, p);
-        if g {
-            return false;
-        }
-        let busy = search::any(ts, p, Sought::Busy);
-        return !busy;
-    }
-    false
+    let row = search::row_of(t);
+    t.on && !row.grey(t.marks, gates::end_of(t.upper, t.limits.h)) && !row.any(Sought::Busy)
 }
 
 // A register set. (One above 7 is none: the step has refused it before it acted.)
-fn with_pointer(regs: [Primary; 8], r: u32, p: Primary) -> [Primary; 8]
+fn with_pointer(mut regs: [Primary; 8], r: u32, p: Primary) -> [Primary; 8]
     ensures { result ≡ set regs r p }
 {
-    let mut u = regs;
-    let at = r as usize;
-    if at < 8 {
-        u[at] = p;
-        return u;
+    if r < 8 {
+        regs[r as usize] = p;
     }
-    u
+    regs
 }
 
 // The task idle; a pending object with all its slots filled goes to its register.
-#[tactic(auto, using(machine::proofs::Rules::tests))]
-pub fn ended_entry(e: Task, pending: Pending) -> Task
-    ensures { result ≡ ended_entry e.regs pending }
+pub fn ended_entry(e: &Task, pending: Option<Making>) -> Task
+    ensures { result ≡ ended_entry e.now.regs pending }
 {
-    let regs = e.regs;
-    match pending {
-        Pending::Nothing => Task {
-            regs: regs,
-            pending: Pending::Nothing,
-            storing: Storing::Nowhere,
-            place: Place::Idle,
-        },
-        Pending::Making(p, r, len, f) => {
-            if f == len {
-                let filled = with_pointer(regs, r, p);
-                return Task {
-                    regs: filled,
-                    pending: Pending::Nothing,
-                    storing: Storing::Nowhere,
-                    place: Place::Idle,
-                };
-            }
-            Task {
-                regs: regs,
-                pending: pending,
-                storing: Storing::Nowhere,
-                place: Place::Idle,
-            }
-        }
+    let (regs, pending) = match pending {
+        Some(d) if d.filled == d.len => (with_pointer(e.regs, d.register, d.at), None),
+        _ => (e.regs, pending),
+    };
+    Task {
+        regs,
+        pending,
+        storing: None,
+        place: Place::Idle,
     }
 }
 
-// The instruction of task i ends in this step, with an answer: the action left these marks and this pending object.
+// The instruction of task i ends in this step, with an answer: the action left these marks and this pending object. (The
+// table is handed on whole: a type of it and a task number below eight would lengthen each use.)
 #[tactic(auto, unfolding(machine::specs::Switch::finish_of))]
-pub fn finish(t: Table, words: &[u32], i: usize, m: Marks, pending: Pending, x: Answer) -> Outcome
-    requires { (i < 8) × (t.limits.p ≤ 8) × (t.limits.h ≤ 8190) }
-    ensures { ends result words.now ≡ finish_of t words.now i m pending x }
+pub fn finish(
+    t: Table,
+    words: &[u32],
+    i: usize,
+    marks: Marks,
+    pending: Option<Making>,
+    answer: Answer,
+) -> Outcome
+    requires { (i < 8) × Capped t.limits }
+    ensures { ends result words.now ≡ finish_of t words.now i marks pending answer }
 {
-    let e = t.tasks[i];
-    let f = ended_entry(e, pending);
-    let mut u = Table { marks: m, ..t };
-    u.tasks[i] = f;
-    let due = switch_due(u);
-    if due {
-        return switch_over(t, u, words, x);
+    let e = ended_entry(&t.tasks[i], pending);
+    let mut table = Table { marks, ..t };
+    table.tasks[i] = e;
+    if switch_due(&table) {
+        return switch_over(t, table, words, answer);
     }
-    Outcome {
-        table: u,
-        answer: x,
-    }
+    Outcome { table, answer }
 }

@@ -12,70 +12,73 @@ pub struct Limits {
 }
 
 // The pointer of a primary, and that of a replica: word numbers of two kinds. Nil is 0 in both.
-#[derive(Clone, Copy)]
+#[derive(Clone, Copy, PartialEq, Eq)]
 pub struct Primary(pub u32);
 
-#[derive(Clone, Copy)]
+#[derive(Clone, Copy, PartialEq, Eq)]
 pub struct Replica(pub u32);
 
-// What a Fill or a Store gives: a plain word, or a pointer.
+// A value for a slot: a plain word, or a pointer. A Fill or a Store gives one with a primary's pointer; a replica's slot
+// gets one with a replica's.
 #[derive(Clone, Copy)]
-pub enum Operand {
+pub enum Operand<P> {
     Plain(u32),
-    Pointer(Primary),
+    Pointer(P),
 }
 
-// What goes into a replica's slot: a plain word is the same there, a pointer is its replica's.
+// An object that a task makes: where it is, the register it goes to, its length L, the slots filled.
 #[derive(Clone, Copy)]
-pub enum Copied {
-    Same(u32),
-    Renamed(Replica),
+pub struct Making {
+    pub at: Primary,
+    pub register: u32,
+    pub len: u32,
+    pub filled: u32,
 }
 
-// A task's pending object: where it is, the register it goes to, its length L, the slots filled.
+// What a New asks for: the register that gets the object, its length L, its m pointer slots.
 #[derive(Clone, Copy)]
-pub enum Pending {
-    Nothing,
-    Making(Primary, u32, u32, u32),
+pub struct Wanted {
+    pub register: u32,
+    pub len: u32,
+    pub m: u32,
 }
 
-// The object and slot of a task's unfinished Store, until its payment has ended.
-#[derive(Clone, Copy)]
-pub enum Storing {
-    Nowhere,
-    Slot(Primary, u32),
+// A slot of an object.
+#[derive(Clone, Copy, PartialEq, Eq)]
+pub struct Slot {
+    pub object: Primary,
+    pub index: u32,
 }
 
 // What follows when the replica of a looked-at pointer is known.
 #[derive(Clone, Copy)]
 pub enum Then {
     // Store: the old pointer was looked at, the primary is to be written.
-    ToWrite(Operand),
+    ToWrite(Operand<Primary>),
     // Store: the new pointer's replica goes into the replica of the object.
     ToStoreCopy,
     // Fill: the same for the pending object.
     ToFillCopy,
-    // A copy: payments left, object, slot.
-    ToPut(u32, Primary, u32),
+    // A copy: payments left, the job's slot.
+    ToPut(u32, Slot),
 }
 
 // A task's place in its current instruction: what its next step does.
 #[derive(Clone, Copy)]
 pub enum Place {
     Idle,
-    // register, L, m
-    New(u32, u32, u32),
-    Asked(u32, u32, u32),
-    FillWrite(Operand),
-    FillCopy(Copied),
-    StoreWrite(Operand),
-    Meet(Operand),
-    StoreCopy(Copied),
-    // copies left to pay, the present one included; then the job's object and slot
+    New(Wanted),
+    Asked(Wanted),
+    FillWrite(Operand<Primary>),
+    FillCopy(Operand<Replica>),
+    StoreWrite(Operand<Primary>),
+    Meet(Operand<Primary>),
+    StoreCopy(Operand<Replica>),
+    // copies left to pay, the present one included; then the job's slot
     Take(u32),
-    Read(u32, Primary, u32),
-    Put(u32, Primary, u32, Copied),
-    Release(u32, Primary, u32),
+    Read(u32, Slot),
+    Put(u32, Slot, Operand<Replica>),
+    Release(u32, Slot),
     Looking(Primary, Then),
     // The object is claimed, and its replica not yet placed.
     Placing(Primary, Then),
@@ -84,8 +87,10 @@ pub enum Place {
 #[derive(Clone, Copy)]
 pub struct Task {
     pub regs: [Primary; 8],
-    pub pending: Pending,
-    pub storing: Storing,
+    // The object that it makes, until a Fill has filled the last slot.
+    pub pending: Option<Making>,
+    // The slot of its unfinished Store, until its payment has ended.
+    pub storing: Option<Slot>,
     pub place: Place,
 }
 
@@ -119,10 +124,10 @@ pub struct Table {
     pub tasks: [Task; 8],
 }
 
-// The refusals 1 to 11, in order.
+// The refusals, by their numbers.
 #[derive(Clone, Copy)]
 pub enum Refusal {
-    WrongLimit,
+    WrongLimit = 1,
     NoTask,
     NoRegister,
     NilObject,
@@ -154,21 +159,15 @@ pub struct Outcome {
     pub answer: Answer,
 }
 
-// Whether a call may go on to its own tests.
+// What an object's descriptor says: its L and m.
 #[derive(Clone, Copy)]
-pub enum Gate {
-    Open,
-    Shut(Refusal),
+pub struct Descriptor {
+    pub len: u32,
+    pub m: u32,
 }
 
-// What a pointer leads to: an object with its L and m, or nothing that can be one.
-#[derive(Clone, Copy)]
-pub enum Object {
-    Whole(u32, u32),
-    Torn,
-}
-
-// What a look at an object of length L finds: its header is 0 (with L), it is 1, or it is the replica's pointer (with L).
+// What a look at an object of length L finds: its header is 0 (with L), it is 1, or it is the replica's pointer (with L). (An enum,
+// as 01 lays it down: who needs the replica takes it out by `let .. else`.)
 #[derive(Clone, Copy)]
 pub enum Look {
     White(u32),
@@ -177,7 +176,8 @@ pub enum Look {
     Lost,
 }
 
-// What a replica's header says: slots still to copy, a locked slot, or what no header can.
+// What a replica's header says: slots still to copy, a locked slot, or what no header can. (One match tells the three apart; an
+// Option of the first two would take two.)
 #[derive(Clone, Copy)]
 pub enum Copying {
     Count(u32),
@@ -186,15 +186,15 @@ pub enum Copying {
 }
 
 // What a task holds at its place: it is idle, its New has asked, it is busy and holds nothing, or it has a job
-// (object and slot), a claim, or both (the claim first).
+// (its slot), a claim, or both (the claim first).
 #[derive(Clone, Copy)]
 pub enum Holding {
     Rests,
     Asks,
     Free,
-    Job(Primary, u32),
+    Job(Slot),
     Claim(Primary),
-    Both(Primary, Primary, u32),
+    Both(Primary, Slot),
 }
 
 // Whom a search over the tasks looks for.
@@ -202,8 +202,8 @@ pub enum Holding {
 pub enum Sought {
     // The task that claimed this object.
     Claimer(Primary),
-    // The task with this object and slot as its job.
-    Holder(Primary, u32),
+    // The task with this slot as its job.
+    Holder(Slot),
     // Another task than this one, with a job or a claim.
     Worker(u32),
     // Another task than this one, neither idle nor with a New that has asked.
@@ -214,34 +214,14 @@ pub enum Sought {
     Busy,
 }
 
-#[derive(Clone, Copy)]
-pub enum Found {
-    At(u32),
-    Nobody,
-}
-
 // What an action does: its task moves on or its instruction ends, with the pending object as it was or changed;
-// it waits; or it fails.
+// it waits; or it fails. (Six ends of which each is matched once: a Result would set one of them apart.)
 #[derive(Clone, Copy)]
 pub enum Deed {
     Goes(Marks, Place),
-    GoesWith(Marks, Pending, Place),
+    GoesWith(Marks, Option<Making>, Place),
     Ends(Marks),
-    EndsWith(Marks, Pending),
+    EndsWith(Marks, Option<Making>),
     Waits(Sought),
     Fails(Refusal),
-}
-
-// A replica claimed, or no room for it.
-#[derive(Clone, Copy)]
-pub enum Placed {
-    Twin(Marks, Replica),
-    Full,
-}
-
-// How a flip's pass stands: it goes on, or it has stopped with a refusal.
-#[derive(Clone, Copy)]
-pub enum Pass {
-    On(Marks),
-    Stopped(Refusal),
 }

@@ -1,56 +1,41 @@
 -- A pass of a flip that visits in order, seen from its loop.
+use Rattle.std.specs.Prelude.{Ok, Err}
 use Prim.Native.Nat.{ℕ, ◌+◌, ◌<◌, ◌≤◌}
 use mathlib.Core.Path.{◌≡◌, refl, sym, ◌∙◌}
 use mathlib.Core.List.{List}
-use native.Mathlib.Omega.{arith}
 use native.Mathlib.Numerals.{add-one}
-use lib.ListN.{length, get_or, take, drop, drop_of_length-le}
-use lib.Seq.{drop-cons, length-take-le}
+use lib.ListN.{length, get_or, drop, drop_of_length-le}
+use lib.Seq.{drop-cons}
 use Rattle.table.specs.declared.Marks.{Marks}
 use Rattle.table.specs.declared.Refusal.{Refusal}
-use Rattle.table.specs.declared.Pass.{Pass}
-use Rattle.table.specs.declared.Pass.TheVariants.{On, Stopped}
-use Rattle.machine.specs.Bounds.{Fits, Passes}
-use Rattle.machine.specs.Flip.{Went, went, next, pass_of}
+use Rattle.machine.specs.Basics.{Gate}
+use Rattle.machine.specs.Flip.{Went, next, pass_of}
+use Rattle.visits.specs.declared.Space.{Space}
+use Rattle.visits.specs.Visits.{Leaves, left}
 
--- The loop's invariant: of n in all, i are visited; the pass from the start is the pass from here.
-pub record Passing {A : Type 0} (visit : A → Marks → List ℕ → Went) (xs : List A) (n end : ℕ) (m₀ : Marks) (ws₀ : List ℕ) (m : Marks) (ws : List ℕ) (i : ℕ) : Type 0 where
-  pub low : i ≤ n
-  pub all : length xs ≡ n
-  pub same : length ws ≡ length ws₀
-  pub fits : Fits m end (length ws)
-  pub so : pass_of visit xs m₀ ws₀ ≡ pass_of visit (drop i xs) m ws
+-- The loop's invariant: i are visited; the pass from the start is the pass from here, of the same space.
+pub record Passing {A : Type 0} (visit : ℕ → ℕ → A → Marks → List ℕ → Went) (xs : List A) (a b : Space) (i : ℕ) : Type 0 where
+  pub words : b.words.ghost_name ≡ a.words.ghost_name
+  pub s : b.s ≡ a.s
+  pub end : b.end ≡ a.end
+  pub so : pass_of (visit a.end a.s) xs a.marks a.words.now ≡ pass_of (visit a.end a.s) (drop i xs) b.marks b.words.now
 
-pub begins :
-    {A : Type 0} (visit : A → Marks → List ℕ → Went) (xs : List A) (n end : ℕ) (m : Marks) (ws : List ℕ) →
-    length xs ≡ n → Fits m end (length ws) → Passing visit xs n end m ws m ws 0
-begins visit xs n end m ws l h = record { low = omega arith; all = l; same = refl; fits = h; so = refl }
+pub begins : {A : Type 0} (visit : ℕ → ℕ → A → Marks → List ℕ → Went) (xs : List A) (a : Space) → Passing visit xs a a 0
+begins visit xs a = record { words = refl; s = refl; end = refl; so = refl }
 
-module _ {A : Type 0} {visit : A → Marks → List ℕ → Went} {xs : List A} {n end : ℕ} {m₀ : Marks} {ws₀ : List ℕ} {m : Marks} {ws : List ℕ} {i : ℕ} (k : Passing visit xs n end m₀ ws₀ m ws i) where
-  pub ends : n ≤ i → (went (On m) ws ≡ pass_of visit xs m₀ ws₀) × Passes (On m) end (length ws₀)
+module _ {A : Type 0} {visit : ℕ → ℕ → A → Marks → List ℕ → Went} {xs : List A} {a b : Space} {i : ℕ} (k : Passing visit xs a b i) where
+  pub ends : length xs ≤ i → Leaves (Ok tt) a b (pass_of (visit a.end a.s) xs)
   unfolding pass_of
-  ends h =
-      let l : length xs ≤ i = omega (arith, k.all) in
-      (sym (k.so ∙ rw (drop_of_length-le xs l)), rw (← k.same) k.fits)
+  ends h = record { so = sym (k.so ∙ rw (drop_of_length-le xs h)); words = k.words; s = k.s; end = k.end }
 
-  -- the visit to the next one, a, came to v and the words `after`
-  module _ {a : A} {v : Pass} {after : List ℕ} (d : A) (h : i < n) (it : get_or xs i d ≡ a) (len : length after ≡ length ws) (e : (went v after ≡ visit a m ws) × Passes v end (length ws)) where
-    turn : pass_of visit xs m₀ ws₀ ≡ next (went v after) (pass_of visit (drop (i + 1) xs))
+  -- the visit to the next one came to v and left the space at c
+  module _ {v : Gate} {c : Space} (d : A) (h : i < length xs) (e : Leaves v b c (visit b.end b.s (get_or xs i d))) where
+    turn : pass_of (visit a.end a.s) xs a.marks a.words.now ≡ next (left v c) (pass_of (visit a.end a.s) (drop (i + 1) xs))
     unfolding pass_of
-    turn =
-        let l : i < length xs = omega (arith, k.all) in
-        k.so ∙ rw (drop-cons xs i d l, add-one, it, ← e.0)
+    turn = k.so ∙ rw (drop-cons xs i d h, add-one, e.so, k.s, k.end)
 
-    pub goes_on : {x : Marks} → v ≡ On x → Passing visit xs n end m₀ ws₀ x after (i + 1)
-    goes_on {x} o =
-        record
-        { low = omega arith; all = k.all; same = len ∙ k.same; fits = rw len (rw o at e.1); so = turn ∙ rw o }
+    pub goes_on : v ≡ Ok tt → Passing visit xs a c (i + 1)
+    goes_on o = record { words = e.words ∙ k.words; s = e.s ∙ k.s; end = e.end ∙ k.end; so = turn ∙ rw o }
 
-    pub stops : {x : Refusal} → v ≡ Stopped x → (went v after ≡ pass_of visit xs m₀ ws₀) × Passes v end (length ws₀)
-    stops {x} o = (sym (turn ∙ rw o), rw o tt)
-
--- a pass over the first n alone
-pub begins_first :
-    {A : Type 0} (visit : A → Marks → List ℕ → Went) (xs : List A) (n end : ℕ) (m : Marks) (ws : List ℕ) →
-    n ≤ length xs → Fits m end (length ws) → Passing visit (take n xs) n end m ws m ws 0
-begins_first visit xs n end m ws l h = begins visit (take n xs) n end m ws (length-take-le n xs l) h
+    pub stops : {x : Refusal} → v ≡ Err x → Leaves (Err x) a c (pass_of (visit a.end a.s) xs)
+    stops {x} o = record { so = sym (turn ∙ rw o); words = e.words ∙ k.words; s = e.s ∙ k.s; end = e.end ∙ k.end }

@@ -1,135 +1,108 @@
 // A flip's visits: the pending objects, the roots and the registers, each white object placed.
 #![tactic(auto)]
 
-ghost use Rattle.std.specs.Prelude.{◌≡◌, ◌≤◌, length, take};
-ghost use Rattle.machine.specs.Bounds.{Fits, Passes};
-ghost use Rattle.machine.specs.Flip.{went, placing, visit_of, visit_pending_of, pass_of, pending_pass, register_pass};
+ghost use Rattle.std.specs.Prelude.{◌≡◌, ◌≤◌, length};
+ghost use Rattle.machine.specs.Bounds.{Fits};
 
-use table::{Look, Marks, Pass, Pending, Placed, Primary, Refusal, Task};
+use table::{Look, Making, Marks, Primary, Refusal, Task};
 
-// A replica with so many slots to copy.
-fn place(m: Marks, end: u32, words: &mut [u32], p: Primary, len: u32, count: u32) -> Pass
-    requires { Fits m end (length words.old) × (4 ≤ p.0) × (p.0 ≤ length words.old) × (len ≤ 255) }
-    ensures { (went result words.new ≡ placing end p len count m words.old) × Passes result end (length words.old) }
-{
-    let x = look::place(m, end, words, p, len, count);
-    match x {
-        Placed::Twin(next, _) => Pass::On(next),
-        Placed::Full => Pass::Stopped(Refusal::Exhausted),
-    }
+// The space that a flip fills: its marks and its end in the lent words, and how many slots an object may have. Whoever makes
+// one shows that the free part lies in the words; each visit keeps that.
+#[derive(Drop)]
+pub struct Space<'w> {
+    pub words: &'w mut [u32],
+    pub s: u32,
+    pub end: u32,
+    pub marks: Marks,
+    pub ghost fits: { Fits marks end (length words.now) },
+    pub ghost short: { s ≤ 255 },
 }
 
-// A root or a register: a non-nil white object is placed.
-#[tactic(auto, using(machine::proofs::Rules::tests), unfolding(machine::specs::Flip::visit_of))]
-fn visit(m: Marks, words: &mut [u32], end: u32, s: u32, p: Primary) -> Pass
-    requires { Fits m end (length words.old) × (s ≤ 255) }
-    ensures { (went result words.new ≡ visit_of end s p m words.old) × Passes result end (length words.old) }
-{
-    let at = p.0;
-    if at == 0 {
-        return Pass::On(m);
-    }
-    let seen = objects::look_at(words, s, p);
-    match seen {
-        Look::White(len) => place(m, end, words, p, len, len),
-        Look::Claimed => Pass::Stopped(Refusal::Damaged),
-        Look::Forwarded(_, _) => Pass::On(m),
-        Look::Lost => Pass::Stopped(Refusal::Damaged),
-    }
-}
+impl<'w> Space<'w> {
+    ghost use Rattle.machine.specs.Flip.{placing, visit_of, visit_pending_of, pass_of, pending_pass, register_pass};
+    ghost use Rattle.visits.specs.Visits.{Leaves};
 
-// A pending object: its replica has the filled slots to copy.
-#[tactic(auto, using(machine::proofs::Rules::tests), unfolding(machine::specs::Flip::visit_pending_of))]
-fn visit_pending(m: Marks, words: &mut [u32], end: u32, s: u32, pending: Pending) -> Pass
-    requires { Fits m end (length words.old) × (s ≤ 255) }
-    ensures { (went result words.new ≡ visit_pending_of end s pending m words.old) × Passes result end (length words.old) }
-{
-    let Pending::Making(p, _, _, f) = pending else {
-        return Pass::On(m);
-    };
-    let seen = objects::look_at(words, s, p);
-    match seen {
-        Look::White(len) => {
-            if len < f {
-                return Pass::Stopped(Refusal::Damaged);
+    // A replica with so many slots to copy.
+    fn place(&mut self, p: Primary, len: u32, count: u32) -> Result<(), Refusal>
+        requires { (4 ≤ p.0) × (p.0 ≤ length self.old.words.now) × (len ≤ 255) }
+        ensures { Leaves result self.old self.new (placing self.old.end p len count) }
+    {
+        let Some((marks, _)) = look::place(self.marks, self.end, self.words, p, len, count) else {
+            return Err(Refusal::Exhausted);
+        };
+        self.marks = marks;
+        Ok(())
+    }
+
+    // A root or a register: a non-nil white object is placed.
+    #[tactic(auto, unfolding(machine::specs::Flip::visit_of))]
+    fn visit(&mut self, p: Primary) -> Result<(), Refusal>
+        ensures { Leaves result self.old self.new (visit_of self.old.end self.old.s p) }
+    {
+        if p == Primary(0) {
+            return Ok(());
+        }
+        // (Of the field itself, lent as `&`, the proof would know no more than its length.)
+        let words = &mut *self.words;
+        match objects::look_at(words, self.s, p) {
+            Look::White(len) => self.place(p, len, len),
+            Look::Forwarded(_, _) => Ok(()),
+            Look::Claimed | Look::Lost => Err(Refusal::Damaged),
+        }
+    }
+
+    // A pending object: its replica has the filled slots to copy.
+    #[tactic(auto, unfolding(machine::specs::Flip::visit_pending_of))]
+    fn visit_pending(&mut self, pending: Option<Making>) -> Result<(), Refusal>
+        ensures { Leaves result self.old self.new (visit_pending_of self.old.end self.old.s pending) }
+    {
+        let Some(d) = pending else {
+            return Ok(());
+        };
+        let words = &mut *self.words;
+        match objects::look_at(words, self.s, d.at) {
+            Look::White(len) if d.filled <= len => self.place(d.at, len, d.filled),
+            _ => Err(Refusal::Damaged),
+        }
+    }
+
+    // The pending objects of the tasks.
+    #[tactic(auto, using(crate::proofs::Turns::begins))]
+    pub fn pendings(&mut self, tasks: &[Task]) -> Result<(), Refusal>
+        ensures { Leaves result self.old self.new (pass_of (pending_pass self.old.end self.old.s) tasks.now) }
+    {
+        for e in tasks {
+            self.visit_pending(e.pending)?;
+        }
+        Ok(())
+    }
+
+    // The shared roots.
+    #[tactic(auto, using(crate::proofs::Turns::begins, crate::proofs::Turns::goes_on, crate::proofs::Turns::stops))]
+    pub fn roots(&mut self, qs: &[Primary]) -> Result<(), Refusal>
+        ensures { Leaves result self.old self.new (pass_of (visit_of self.old.end self.old.s) qs.now) }
+    {
+        for q in qs {
+            self.visit(*q)?;
+        }
+        Ok(())
+    }
+
+    // The registers of the tasks. (Labelled, as 01 has it where roots inside tasks are visited: a refusal leaves both loops.)
+    #[tactic(auto, using(crate::proofs::Turns::begins))]
+    pub fn registers(&mut self, tasks: &[Task]) -> Result<(), Refusal>
+        ensures { Leaves result self.old self.new (pass_of (register_pass self.old.end self.old.s) tasks.now) }
+    {
+        'tasks: {
+            for e in tasks {
+                // as a slice: of an array in an element of a slice the proof does not know that it holds eight
+                for q in &e.regs[..] {
+                    if let Err(x) = self.visit(*q) {
+                        break 'tasks Err(x);
+                    }
+                }
             }
-            place(m, end, words, p, len, f)
+            Ok(())
         }
-        Look::Claimed => Pass::Stopped(Refusal::Damaged),
-        Look::Forwarded(_, _) => Pass::Stopped(Refusal::Damaged),
-        Look::Lost => Pass::Stopped(Refusal::Damaged),
-    }
-}
-
-// The pending objects of the first p tasks.
-#[tactic(auto, using(crate::proofs::Turns::begins_first, crate::proofs::Turns::goes_on, crate::proofs::Turns::stops, crate::proofs::Turns::ends))]
-pub fn pendings(m: Marks, words: &mut [u32], end: u32, s: u32, p: usize, tasks: [Task; 8]) -> Pass
-    requires { Fits m end (length words.old) × (s ≤ 255) × (p ≤ 8) }
-    ensures { (went result words.new ≡ pass_of (pending_pass end s) (take p tasks) m words.old) × Passes result end (length words.old) }
-{
-    let mut g = m;
-    let mut i: usize = 0;
-    loop {
-        if i >= p {
-            break Pass::On(g);
-        }
-        let e = tasks[i];
-        let d = e.pending;
-        let v = visit_pending(g, words, end, s, d);
-        let Pass::On(x) = v else {
-            break v;
-        };
-        g = x;
-        i = i + 1;
-    }
-}
-
-// The shared roots.
-#[tactic(auto, using(crate::proofs::Turns::begins, crate::proofs::Turns::goes_on, crate::proofs::Turns::stops, crate::proofs::Turns::ends))]
-pub fn roots(m: Marks, words: &mut [u32], end: u32, s: u32, qs: [Primary; 8]) -> Pass
-    requires { Fits m end (length words.old) × (s ≤ 255) }
-    ensures { (went result words.new ≡ pass_of (visit_of end s) qs m words.old) × Passes result end (length words.old) }
-{
-    let mut g = m;
-    let mut i: usize = 0;
-    loop {
-        if i >= 8 {
-            break Pass::On(g);
-        }
-        let q = qs[i];
-        let v = visit(g, words, end, s, q);
-        let Pass::On(x) = v else {
-            break v;
-        };
-        g = x;
-        i = i + 1;
-    }
-}
-
-// The registers of the first p tasks: the loop over the tasks is left from inside, with the refusal.
-#[tactic(auto, using(crate::proofs::Turns::begins, crate::proofs::Turns::begins_first, crate::proofs::Turns::goes_on, crate::proofs::Turns::stops, crate::proofs::Turns::ends))]
-pub fn registers(m: Marks, words: &mut [u32], end: u32, s: u32, p: usize, tasks: [Task; 8]) -> Pass
-    requires { Fits m end (length words.old) × (s ≤ 255) × (p ≤ 8) }
-    ensures { (went result words.new ≡ pass_of (register_pass end s) (take p tasks) m words.old) × Passes result end (length words.old) }
-{
-    let mut g = m;
-    let mut i: usize = 0;
-    'tasks: loop {
-        if i >= p {
-            break Pass::On(g);
-        }
-        let e = tasks[i];
-        let regs = entries::registers_of(e);
-        let mut r: usize = 0;
-        while r < 8 {
-            let q = regs[r];
-            let v = visit(g, words, end, s, q);
-            let Pass::On(x) = v else {
-                break 'tasks v;
-            };
-            g = x;
-            r = r + 1;
-        }
-        i = i + 1;
     }
 }

@@ -1,10 +1,7 @@
-use Rattle.std.proofs.Common.{◌-◌}
+use Rattle.std.proofs.Common.{◌≡◌, take}
+use Rattle.machine.specs.Basics.{first_of}
 use Rattle.machine.specs.Flip.{unasked_entry}
-use Rattle.flip.proofs.Renewed.{Renewing}
 use Rattle.flip.proofs.unasked_tasks.Given as goal
 
-abbrev pub invariant-loop-i : goal.invariant-loop-i
-invariant-loop-i l = Renewing unasked_entry l.tasks l.p l.u l.i
-
-abbrev pub decreases-loop-i : goal.decreases-loop-i
-decreases-loop-i l = l.p - l.i
+abbrev pub invariant-loop-e : goal.invariant-loop-e
+invariant-loop-e l = l.e-items ≡ first_of l.e-index unasked_entry (take l.p l.fn.tasks)

@@ -1,5 +1,5 @@
 -- The calls that complete at once, computed: what registers and roots hold, and what each call answers, by the objects.
-use Rattle.std.specs.Prelude.{ℕ, ◌+◌, ◌-◌, ◌≤◌, ◌<◌, ◌≡◌, List, map, Bool, get_or, leb, eqb}
+use Rattle.std.specs.Prelude.{ℕ, ◌+◌, ◌-◌, ◌≤◌, ◌<◌, ◌≡◌, List, map, Bool, get_or, leb, eqb, Ok, Err}
 use Rattle.std.proofs.Math.Path.{refl}
 use Rattle.std.proofs.Common.{ap, sym, ◌∙◌, arith, ltb-true, ltb-false, leb-false}
 use Rattle.std.proofs.Math.Bool.{true, false}
@@ -14,7 +14,6 @@ use Rattle.table.specs.declared.Table.{Table}
 use Rattle.table.specs.declared.Answer.TheVariants.{Done, Value, Report}
 use Rattle.table.specs.declared.Outcome.{Outcome}
 use Rattle.machine.specs.Basics.{pick}
-use Rattle.table.specs.declared.Gate.TheVariants.{Open, Shut}
 use Rattle.machine.specs.Numbers.{refusal}
 use Rattle.machine.specs.Words.{primary, object_of, bottom_of}
 use Rattle.machine.specs.Entries.{task_at, nil, register, with_register, with_root, out, no}
@@ -44,9 +43,9 @@ place_idle pa ra pl = ap idle_of (holding_at pa ra pl) ∙ rests (holding_of pl)
     rests Rests = refl
     rests Asks = refl
     rests Free = refl
-    rests (Job y j) = refl
+    rests (Job job) = refl
     rests (Claim p) = refl
-    rests (Both p y j) = refl
+    rests (Both p job) = refl
 
 -- what a call that names two registers or roots answers: no such task (2), no such register (3), not idle (6), or the rest
 abbrev pub if_two : Table → ℕ → ℕ → ℕ → Bool → Outcome → Outcome
@@ -88,14 +87,14 @@ module _ {K : ℕ → Type 0} {pa ra : ℕ → ℕ} {o : State} {t : Table} {ws 
   with_two_lem s task a b q r f = rw (pair_gate_lem k s task a b) (on (ltb task t.limits.p) refl)
     where
       registers : (c d : Bool) → task < t.limits.p
-          → through (pick c (Shut (refusal 3)) (pick d (Shut (refusal 3)) Open)) t (pick (idle_at t task) q (no t 6))
+          → through (pick c (Err (refusal 3)) (pick d (Err (refusal 3)) (Ok tt))) t (pick (idle_at t task) q (no t 6))
           ≡ pick c (no t 3) (pick d (no t 3) (pick (is_idle o task) r (no t 6)))
       registers true d l = refl
       registers false true l = refl
       registers false false l = rw (idle_of_lem task (task_in task l), f l) refl
 
       on : (b' : Bool) → ltb task t.limits.p ≡ b'
-          → through (behind (pick b' Open (Shut (refusal 2))) (pick (ltb 7 a) (Shut (refusal 3)) (pick (ltb 7 b) (Shut (refusal 3)) Open))) t
+          → through (behind (pick b' (Ok tt) (Err (refusal 2))) (pick (ltb 7 a) (Err (refusal 3)) (pick (ltb 7 b) (Err (refusal 3)) (Ok tt)))) t
           (pick (idle_at t task) q (no t 6))
           ≡ pick b' (pick (ltb 7 a) (no t 3) (pick (ltb 7 b) (no t 3) (pick (is_idle o task) r (no t 6)))) (no t 2)
       on true e = registers (ltb 7 a) (ltb 7 b) (ltb-true task t.limits.p e)

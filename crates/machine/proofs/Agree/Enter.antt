@@ -1,19 +1,17 @@
 -- A table with one entry and the marks changed: the machine's tables have this form, and what shows that it agrees.
-use Rattle.std.specs.Prelude.{ℕ, zero, suc, ◌+◌, ◌*◌, ◌≤◌, ◌<◌, ◌≡◌, refl, List, [], ◌∷◌, map, Bool, true, false, length, get_or, set, eqb}
+use Rattle.std.specs.Prelude.{ℕ, suc, ◌+◌, ◌*◌, ◌≤◌, ◌<◌, ◌≡◌, refl, List, [], map, Bool, true, false, length, get_or, set, eqb, Option, Some, None}
 use Rattle.std.proofs.Common.{ap, sym, ◌∙◌, arith, length-set, get_or-set_same, get_or-set_other}
 use Rattle.std.proofs.Math.Decide.{ℕ_discrete}
 use Rattle.table.specs.declared.Primary.{Primary}
 use Rattle.table.specs.declared.Marks.{Marks}
-use Rattle.table.specs.declared.Pending.{Pending}
-use Rattle.table.specs.declared.Pending.TheVariants.{Nothing, Making}
-use Rattle.table.specs.declared.Storing.TheVariants.{Nowhere}
+use Rattle.table.specs.declared.Making.{Making}
 use Rattle.table.specs.declared.Place.{Place}
 use Rattle.table.specs.declared.Place.TheVariants.{Idle}
 use Rattle.table.specs.declared.Task.{Task}
 use Rattle.table.specs.declared.Table.{Table}
 use Rattle.machine.specs.Basics.{pick}
 use Rattle.machine.specs.Words.{bottom_of, end_of}
-use Rattle.machine.specs.Entries.{entry, marks_at, no_task, task_at, with_task, with_place, moved_table, with_register, entered}
+use Rattle.machine.specs.Entries.{entry, marks_at, no_task, task_at, with_task, with_place, moved_table, with_register, entered, pending_with}
 use Rattle.machine.specs.Tasks.{holding_of}
 use Rattle.machine.specs.Switch.{ended_entry, ended_table}
 use Rattle.machine.proofs.Objects.Base.{upd, upd_same, upd_other, sum_to, sum_to_at, sum_to_part}
@@ -25,14 +23,10 @@ use Rattle.machine.proofs.Agree.Mem.{Holds}
 use Rattle.machine.specs.Agree.Agree.{end}
 use Rattle.machine.proofs.Agree.Agree.{addr, Ok, content, Lay, bottom, Agree}
 use Rattle.machine.proofs.Agree.MidwayRead.{space_low, space_high}
+use Rattle.std.proofs.lemmas.List.{map-set}
 
 -- ---- the machine's tables have this form
-pub map_set : {A B : Type 0} (f : A → B) (l : List A) (i : ℕ) (a : A) → map f (set l i a) ≡ set (map f l) i (f a)
-map_set f [] i a = refl
-map_set f (b ∷ l) zero a = refl
-map_set f (b ∷ l) (suc i) a = ap (f b ∷◌) (map_set f l i a)
-
-pub entered_moved : (pa ra : ℕ → ℕ) (o : State) (t : Table) (i : ℕ) (m : Marks) (pd : Pending) (pl : Place) → task_at t i ≡ at_task pa ra (o.tasks i)
+pub entered_moved : (pa ra : ℕ → ℕ) (o : State) (t : Table) (i : ℕ) (m : Marks) (pd : Option Making) (pl : Place) → task_at t i ≡ at_task pa ra (o.tasks i)
     → moved_table t i m (at_pending pa pd) (at_place pa ra pl) ≡ entered t m i (at_task pa ra (goes_with (o.tasks i) pd pl))
 unfolding moved_table
 entered_moved pa ra o t i m pd pl e = rw e
@@ -46,17 +40,17 @@ pub entered_register : (pa ra : ℕ → ℕ) (o : State) (t : Table) (i r : ℕ)
     → with_register t i r (at_primary pa x)
     ≡ entered t t.marks i (at_task pa ra (entry (set (o.tasks i).regs r x) (o.tasks i).pending (o.tasks i).storing (o.tasks i).place))
 unfolding with_register with_task
-entered_register pa ra o t i r x e = rw (e, map_set (at_primary pa) (o.tasks i).regs r x)
+entered_register pa ra o t i r x e = rw (e, map-set (at_primary pa) (o.tasks i).regs r x)
 
-pub entered_ended : (pa ra : ℕ → ℕ) (o : State) (t : Table) (i : ℕ) (m : Marks) (pd : Pending) → task_at t i ≡ at_task pa ra (o.tasks i)
+pub entered_ended : (pa ra : ℕ → ℕ) (o : State) (t : Table) (i : ℕ) (m : Marks) (pd : Option Making) → task_at t i ≡ at_task pa ra (o.tasks i)
     → ended_table t i m (at_pending pa pd) ≡ entered t m i (at_task pa ra (ended_entry (o.tasks i).regs pd))
-entered_ended pa ra o t i m Nothing e = rw e
-entered_ended pa ra o t i m (Making x r len f) e = rw e (on (eqb f len))
+entered_ended pa ra o t i m None e = rw e
+entered_ended pa ra o t i m (Some d) e = rw e (on (eqb d.filled d.len))
   where
     on : (b : Bool) →
-        entered t m i (pick b (entry (set (map (at_primary pa) (o.tasks i).regs) r (at_primary pa x)) Nothing Nowhere Idle) (entry (map (at_primary pa) (o.tasks i).regs) (Making (at_primary pa x) r len f) Nowhere Idle))
-        ≡ entered t m i (at_task pa ra (pick b (entry (set (o.tasks i).regs r x) Nothing Nowhere Idle) (entry (o.tasks i).regs (Making x r len f) Nowhere Idle)))
-    on true = rw (map_set (at_primary pa) (o.tasks i).regs r x)
+        entered t m i (pick b (entry (set (map (at_primary pa) (o.tasks i).regs) d.register (at_primary pa d.at)) None None Idle) (entry (map (at_primary pa) (o.tasks i).regs) (pending_with (at_primary pa d.at) d.register d.len d.filled) None Idle))
+        ≡ entered t m i (at_task pa ra (pick b (entry (set (o.tasks i).regs d.register d.at) None None Idle) (entry (o.tasks i).regs (Some d) None Idle)))
+    on true = rw (map-set (at_primary pa) (o.tasks i).regs d.register d.at)
     on false = refl
 
 -- ---- limits of the spaces

@@ -1,5 +1,5 @@
 -- The passes of the flip: what was visited is exactly the pending objects, the roots and the registers, or there was no room.
-use Rattle.std.specs.Prelude.{ℕ, zero, suc, ◌≤◌, ◌<◌, ◌≡◌, refl, ◌⊎◌, false, length, get_or}
+use Rattle.std.specs.Prelude.{ℕ, zero, suc, ◌≤◌, ◌<◌, ◌≡◌, refl, ◌⊎◌, false, length, get_or, Result, Ok, Err}
 use Rattle.std.proofs.Common.{ap, sym, subst, ◌∙◌, inl, inr, arith}
 use mathlib.Core.List.{List, [], ◌∷◌, map}
 use Rattle.std.proofs.Math.Decide.{ℕ_discrete, dec_lt}
@@ -8,8 +8,7 @@ use Rattle.std.proofs.Math.ListN.{get_or-map, get_or-eq_default}
 use Rattle.table.specs.declared.Primary.{Primary}
 use Rattle.table.specs.declared.Marks.{Marks}
 use Rattle.table.specs.declared.Task.{Task}
-use Rattle.table.specs.declared.Pass.{Pass}
-use Rattle.table.specs.declared.Pass.TheVariants.{On, Stopped}
+use Rattle.table.specs.declared.Refusal.{Refusal}
 use Rattle.machine.specs.Numbers.{refusal}
 use Rattle.machine.specs.Words.{primary}
 use Rattle.machine.specs.Entries.{no_task, nil}
@@ -59,9 +58,9 @@ nil_plus D f r vs d k = k.1 0 (inl d)
 -- ---- passes
 module _ (K : ℕ → Type 0) (pa : ℕ → ℕ) (o : State) (base end size : ℕ) where
   -- a pass that goes on has visited exactly the objects of D; one that stops found no room
-  abbrev pub SomePass : (ℕ → Type 0) → Pass → List ℕ → Type 0
-  SomePass D (On m) ws = (vs : List ℕ) × Exact D vs × Visited K pa o base end size vs m ws
-  SomePass D (Stopped x) ws = (x ≡ refusal 10) × Cramped K pa o base end size
+  abbrev pub SomePass : (ℕ → Type 0) → Result Marks Refusal → List ℕ → Type 0
+  SomePass D (Ok m) ws = (vs : List ℕ) × Exact D vs × Visited K pa o base end size vs m ws
+  SomePass D (Err x) ws = (x ≡ refusal 10) × Cramped K pa o base end size
 
   abbrev pub Some : (ℕ → Type 0) → Went → Type 0
   Some D w = SomePass D w.pass w.words
@@ -69,17 +68,17 @@ module _ (K : ℕ → Type 0) (pa : ℕ → ℕ) (o : State) (base end size : �
   after_some : (D : ℕ → Type 0) (vs : List ℕ) (w : Went) → Exact D vs → After K pa o base end size vs w → Some D w
   after_some D vs w k = go w.pass
     where
-      go : (x : Pass) → AfterPass K pa o base end size vs x w.words → SomePass D x w.words
-      go (On m) a = (vs, k, a)
-      go (Stopped x) a = a
+      go : (x : Result Marks Refusal) → AfterPass K pa o base end size vs x w.words → SomePass D x w.words
+      go (Ok m) a = (vs, k, a)
+      go (Err x) a = a
 
   some_next : (D E : ℕ → Type 0) (w : Went) (rest : Marks → List ℕ → Went) → Some D w
       → ((vs : List ℕ) (m : Marks) (ws : List ℕ) → Exact D vs → Visited K pa o base end size vs m ws → Some E (rest m ws)) → Some E (next w rest)
   some_next D E w rest k h = go w.pass k
     where
-      go : (x : Pass) → SomePass D x w.words → Some E (onward x w.words rest)
-      go (On m) (vs, a, b) = h vs m w.words a b
-      go (Stopped x) a = a
+      go : (x : Result Marks Refusal) → SomePass D x w.words → Some E (onward x w.words rest)
+      go (Ok m) (vs, a, b) = h vs m w.words a b
+      go (Err x) a = a
 
   -- a visit to each entry of a list
   some_pass : {A : Type 0} (visit : A → Marks → List ℕ → Went) (d : A) (D : ℕ → ℕ → Type 0) (l : List A)

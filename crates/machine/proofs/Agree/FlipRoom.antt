@@ -1,14 +1,13 @@
 -- The flip has room: if the words and the number of the objects that it visits are bounded, and the bounds fit into a half, then no visit stops.
-use Rattle.std.specs.Prelude.{ℕ, zero, suc, ◌+◌, ◌-◌, ◌≤◌, ◌<◌, ◌≢◌, ◌⊎◌, List, false, not, length, eqb}
+use Rattle.std.specs.Prelude.{ℕ, zero, suc, ◌+◌, ◌-◌, ◌≤◌, ◌<◌, ◌≢◌, ◌⊎◌, List, false, not, length, eqb, Option, Some, None, Result, Err}
 use Rattle.std.proofs.Math.Path.{◌≡◌, ap}
 use Rattle.std.proofs.Common.{sym, ◌∙◌, inl, inr}
 use native.Mathlib.Omega.{arith}
 use borrow.Author.Tests.{leb-false, ne_eqb}
 use Rattle.table.specs.declared.Table.{Table}
-use Rattle.table.specs.declared.Pending.{Pending}
-use Rattle.table.specs.declared.Pending.TheVariants.{Nothing, Making}
-use Rattle.table.specs.declared.Pass.{Pass}
-use Rattle.table.specs.declared.Pass.TheVariants.{Stopped}
+use Rattle.table.specs.declared.Marks.{Marks}
+use Rattle.table.specs.declared.Refusal.{Refusal}
+use Rattle.table.specs.declared.Making.{Making}
 use Rattle.table.specs.declared.Answer.{Answer}
 use Rattle.table.specs.declared.Answer.TheVariants.{Moved, No}
 use Rattle.machine.specs.Basics.{pick}
@@ -17,13 +16,13 @@ use Rattle.machine.specs.Words.{room_for, bottom_of, end_of}
 use Rattle.machine.specs.Entries.{Ends}
 use Rattle.machine.specs.Flip.{passes_of, flip_end, flip_of}
 use Rattle.machine.specs.Objects.Base.{In}
-use Rattle.machine.proofs.Objects.Base.{clash, upd, upd_other, upd_all, sum_to}
+use Rattle.machine.proofs.Objects.Base.{clash, upd, upd_other, upd_all, sum_to, in?}
 use Rattle.machine.proofs.Objects.State.{Hd, white, claimed, count, locked, State, IsPlaced, IsUnplaced, pending_is}
 use Rattle.machine.proofs.Objects.Inv.{Reach, from, PendingOk, Off, Inv}
 use Rattle.machine.proofs.Objects.Ops.{found_in}
 use Rattle.machine.proofs.Objects.Flipped.{Comes}
 use Rattle.machine.proofs.Objects.Counts.{is_placed, is_grey}
-use Rattle.machine.proofs.Objects.FlipCounts.{twin_words_of, in?}
+use Rattle.machine.proofs.Objects.FlipCounts.{twin_words_of}
 use Rattle.machine.proofs.Agree.Agree.{bottom, Agree}
 use Rattle.machine.proofs.Agree.Midway.{twin_need}
 use Rattle.machine.proofs.Agree.Home.{Home}
@@ -77,9 +76,9 @@ module _ {K : ℕ → Type 0} {p s : ℕ} {o : State} (v : Inv K p s o) (off : o
   came x (inl e) = omega (arith, e)
   came x (inr (inl (t, e))) = rw (sym e) (go (o.tasks t).pending (v.entries t).pending)
     where
-      go : (q : Pending) → PendingOk K o.shape o.hd o.on q → pending_is q ≤ o.shape.n
-      go Nothing w = omega arith
-      go (Making y r len f) w = w.2
+      go : (q : Option Making) → PendingOk K o.shape o.hd o.on q → pending_is q ≤ o.shape.n
+      go None w = omega arith
+      go (Some d) w = w.2
   came x (inr (inr (inl (r, e)))) = rw (sym e) (v.roots r).1
   came x (inr (inr (inr (t, r, e)))) = rw (sym e) ((v.entries t).regs r).1
 
@@ -159,14 +158,14 @@ module _ {K : ℕ → Type 0} {pa ra : ℕ → ℕ} {o : State} {t : Table} {ws 
   pub flip_made : FlipMade K pa o t ws
   flip_made = go (flip_either v k off home)
     where
-      go : (((passes_of t ws).pass ≡ Stopped (refusal 10)) × Cramped K pa o (bottom_of (not t.upper) t.limits.h) (end_of (not t.upper) t.limits.h) (length ws))
+      go : (((passes_of t ws).pass ≡ Err (refusal 10)) × Cramped K pa o (bottom_of (not t.upper) t.limits.h) (end_of (not t.upper) t.limits.h) (length ws))
           ⊎ FlipMade K pa o t ws → FlipMade K pa o t ws
       go (inl (e, f)) = absurd (fits f)
       go (inr f) = f
 
-  pub flip_fits : (passes_of t ws).pass ≢ Stopped (refusal 10)
+  pub flip_fits : (passes_of t ws).pass ≢ Err (refusal 10)
   unfolding flip_of
   flip_fits e =
-      let a : ◌≡◌ {A = Answer} (No (refusal 10)) Moved = ap (λ (x : Pass). (flip_end t x).answer) (sym e) ∙ ap (λ (y : Ends). y.out.answer) flip_made.flip in
+      let a : ◌≡◌ {A = Answer} (No (refusal 10)) Moved = ap (λ (x : Result Marks Refusal). (flip_end t x).answer) (sym e) ∙ ap (λ (y : Ends). y.out.answer) flip_made.flip in
       let z : ◌≡◌ {A = ℕ} 0 1 = cc in
       clash z

@@ -7,11 +7,10 @@ use Rattle.table.specs.declared.Marks.{Marks}
 use Rattle.table.specs.declared.Table.{Table}
 use Rattle.machine.specs.Words.{bottom_of, end_of}
 use Rattle.machine.specs.Flip.{empty_space}
-use Rattle.machine.proofs.Objects.Base.{sum_to_ext}
+use Rattle.machine.proofs.Objects.Base.{sum_to_ext, sum_none}
 use Rattle.machine.proofs.Objects.State.{Hd, Shape, State, IsPlaced, owes}
 use Rattle.machine.proofs.Objects.Inv.{Off, Inv}
 use Rattle.machine.proofs.Objects.FlipInv.{mid_start}
-use Rattle.machine.proofs.Objects.FlipCounts.{sum_none}
 use Rattle.machine.proofs.Agree.Encode.{copy_word, header_word}
 use Rattle.machine.proofs.Agree.Mem.{P, R, S, Holds}
 use Rattle.machine.specs.Agree.Agree.{end}

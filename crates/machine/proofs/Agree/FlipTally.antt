@@ -1,12 +1,11 @@
 -- The words claimed and the objects pushed while the flip gives replicas: the sums over the headers, before the first visit and at each replica given.
-use Rattle.std.specs.Prelude.{ℕ, zero, suc, ◌+◌, ◌≤◌, ◌<◌, ◌≡◌, refl, ◌≢◌, List, false, length}
+use Rattle.std.specs.Prelude.{ℕ, suc, ◌+◌, ◌≤◌, ◌<◌, ◌≡◌, refl, ◌≢◌, false}
 use Rattle.std.proofs.Common.{ap, arith, ne_eqb}
 use Rattle.std.proofs.Math.Decide.{ℕ_discrete}
-use Rattle.machine.proofs.Objects.Base.{upd, upd_same, upd_other, sum_to_at}
+use Rattle.machine.proofs.Objects.Base.{upd, upd_same, upd_other, sum_to_at, sum_none}
 use Rattle.machine.proofs.Objects.State.{Hd, white, claimed, count, locked, Shape, IsUnplaced}
-use Rattle.machine.proofs.Objects.Ops.{push}
 use Rattle.machine.proofs.Objects.Counts.{is_placed, is_grey}
-use Rattle.machine.proofs.Objects.FlipCounts.{twin_words_of, twinned, grey_ones, sum_none}
+use Rattle.machine.proofs.Objects.FlipCounts.{twin_words_of, twinned, grey_ones}
 
 unplaced_is : (h : Hd) → IsUnplaced h → (is_placed h ≡ false) × (is_grey h ≡ 0)
 unplaced_is white u = (refl, refl)
@@ -64,8 +63,3 @@ module _ (sh : Shape) (hd : ℕ → Hd) (x c : ℕ) (pos : 0 < x) (old : x ≤ s
   pub more_grey : grey_ones sh (upd hd x (count c)) ≡ grey_ones sh hd + is_grey (count c)
   unfolding hd'
   more_grey = greys
-
--- one with a slot to copy is pushed
-pub push_length : (c x : ℕ) (stack : List ℕ) → length (push c x stack) ≡ length stack + is_grey (count c)
-push_length zero x stack = omega arith
-push_length (suc c) x stack = rw (ne_eqb (suc c) 0 (λ e. omega arith)) (omega arith)

@@ -1,31 +1,30 @@
 -- One visit of the flip: an object that has no replica yet is given one, or there is no room; nil and one that has its replica are passed over.
-use Rattle.std.specs.Prelude.{ℕ, ◌+◌, ◌≤◌, ◌<◌, ◌≡◌, refl, ◌≢◌, List, ◌∷◌, Bool, true, false, length, eqb}
+use Rattle.std.specs.Prelude.{ℕ, ◌+◌, ◌≤◌, ◌<◌, ◌≡◌, refl, ◌≢◌, List, ◌∷◌, Bool, true, false, length, eqb, Option, Some, None, Result, Ok, Err}
 use Rattle.std.proofs.Common.{ap, sym, ◌∙◌, inl, inr, arith}
 use Rattle.std.proofs.Math.Decide.{ℕ_discrete}
 use borrow.Author.Tests.{le-ltb, ne_eqb}
 use Rattle.table.specs.declared.Marks.{Marks}
-use Rattle.table.specs.declared.Pending.{Pending}
-use Rattle.table.specs.declared.Pending.TheVariants.{Nothing, Making}
-use Rattle.table.specs.declared.Pass.{Pass}
-use Rattle.table.specs.declared.Pass.TheVariants.{On, Stopped}
+use Rattle.table.specs.declared.Refusal.{Refusal}
+use Rattle.table.specs.declared.Making.{Making}
 use Rattle.machine.specs.Basics.{pick}
 use Rattle.machine.specs.Numbers.{refusal}
 use Rattle.machine.specs.Words.{primary, look_of, room_for}
 use Rattle.machine.specs.Flip.{Went, went, placing, visit_case, visit_of, visit_pending_of}
 use Rattle.machine.specs.Objects.Base.{In}
-use Rattle.machine.proofs.Objects.Base.{off_on, upd}
+use Rattle.machine.proofs.Objects.Base.{off_on, upd, in?}
 use Rattle.machine.proofs.Objects.State.{white, State, IsPlaced, IsUnplaced, pending_is}
 use Rattle.machine.proofs.Objects.Inv.{Sound, PendingOk, Off, Inv}
 use Rattle.machine.proofs.Objects.Ops.{twins}
 use Rattle.machine.proofs.Objects.Flipped.{Comes}
 use Rattle.machine.proofs.Objects.FlipInv.{Mid, mid_skip, mid_twin}
-use Rattle.machine.proofs.Objects.FlipCounts.{twinned, grey_ones, in?}
+use Rattle.machine.proofs.Objects.FlipCounts.{twinned, grey_ones}
 use Rattle.machine.proofs.Agree.Encode.{at_pending}
 use Rattle.machine.proofs.Agree.Agree.{Held}
 use Rattle.machine.proofs.Agree.Midway.{Midway, twin_need, no_room, twin_length}
 use Rattle.machine.proofs.Agree.MidwayRead.{found_by, look_in}
 use Rattle.machine.proofs.Agree.Twin.{twin}
-use Rattle.machine.proofs.Agree.FlipTally.{more_twinned, more_grey, push_length}
+use Rattle.machine.proofs.Agree.FlipTally.{more_twinned, more_grey}
+use Rattle.machine.proofs.Objects.CountHeads.{push_length}
 
 -- the heap o, in which the objects of vs have replicas: marks and words of the space to come
 pub record Visited (K : ℕ → Type 0) (pa : ℕ → ℕ) (o : State) (base end size : ℕ) (vs : List ℕ) (m : Marks) (ws : List ℕ) : Type 0 where
@@ -55,9 +54,9 @@ pub record Cramped (K : ℕ → Type 0) (pa : ℕ → ℕ) (o : State) (base end
 
 module _ (K : ℕ → Type 0) (pa : ℕ → ℕ) (o : State) (base end size : ℕ) where
   -- a visit that goes on has visited the objects of vs; one that stops found no room
-  abbrev pub AfterPass : List ℕ → Pass → List ℕ → Type 0
-  AfterPass vs (On m) ws = Visited K pa o base end size vs m ws
-  AfterPass vs (Stopped x) ws = (x ≡ refusal 10) × Cramped K pa o base end size
+  abbrev pub AfterPass : List ℕ → Result Marks Refusal → List ℕ → Type 0
+  AfterPass vs (Ok m) ws = Visited K pa o base end size vs m ws
+  AfterPass vs (Err x) ws = (x ≡ refusal 10) × Cramped K pa o base end size
 
   abbrev pub After : List ℕ → Went → Type 0
   After vs w = AfterPass vs w.pass w.words
@@ -117,7 +116,7 @@ module _ (K : ℕ → Type 0) (pa : ℕ → ℕ) (o : State) (base end size : �
             (refl, record { before = vs; marks = m; words = ws; visited = k; object = x; held = h; fresh = n; comes = f; none = r })
 
     -- one that was visited, or nil
-    passing_it : (x : ℕ) → In x vs → After (x ∷ vs) (went (On m) ws)
+    passing_it : (x : ℕ) → In x vs → After (x ∷ vs) (went (Ok m) ws)
     passing_it x i = record {
       objects = o₁;
       ra = k.ra;
@@ -148,16 +147,16 @@ module _ (K : ℕ → Type 0) (pa : ℕ → ℕ) (o : State) (base end size : �
             rw (look x (held f), white_still x (held f).0 n)
             (rw q.2 at (placing_it x (held f) c n))
 
-        go : Dec (x ≡ 0) → After (x ∷ vs) (pick (eqb (pa x) 0) (went (On m) ws) (visit_case end (primary (pa x)) m ws (look_of ws s (primary (pa x)))))
+        go : Dec (x ≡ 0) → After (x ∷ vs) (pick (eqb (pa x) 0) (went (Ok m) ws) (visit_case end (primary (pa x)) m ws (look_of ws s (primary (pa x)))))
         go (yes e) = rw (e, nilp) (passing_it 0 i)
         go (no f) = rw (ne_eqb (pa x) 0 (λ e. omega (arith, k.words.lay.inside x (held f)))) (by f (in? x vs))
 
     -- a pending object, not visited before
-    pub pending_visit : (q : Pending) → PendingOk K o.shape o.hd o.on q → Comes o (pending_is q) → In 0 vs → (0 < pending_is q → In (pending_is q) vs → ⊥)
+    pub pending_visit : (q : Option Making) → PendingOk K o.shape o.hd o.on q → Comes o (pending_is q) → In 0 vs → (0 < pending_is q → In (pending_is q) vs → ⊥)
         → After (pending_is q ∷ vs) (visit_pending_of end s (at_pending pa q) m ws)
     unfolding visit_pending_of
-    pending_visit Nothing w c i n = passing_it 0 i
-    pending_visit (Making x r len f) w c i n =
-        let h : Held K o.shape x.0 = (w.0, w.2, w.1) in
-        rw (look x.0 h, white_still x.0 w.0 (n w.0), w.4, le-ltb (o.shape.len x.0) (o.shape.fill x.0) (filled x.0))
-        (placing_it x.0 h c (n w.0))
+    pending_visit None w c i n = passing_it 0 i
+    pending_visit (Some d) w c i n =
+        let h : Held K o.shape d.at.0 = (w.0, w.2, w.1) in
+        rw (look d.at.0 h, white_still d.at.0 w.0 (n w.0), w.4, le-ltb (o.shape.len d.at.0) (o.shape.fill d.at.0) (filled d.at.0))
+        (placing_it d.at.0 h c (n w.0))

@@ -1,5 +1,5 @@
 -- The flip in words: 10 where a replica finds no room; else the visited objects have replicas in the space to come, and table and words agree.
-use Rattle.std.specs.Prelude.{ℕ, zero, suc, ◌+◌, ◌<◌, ◌≡◌, ◌⊎◌, List, [], ◌∷◌, Bool, false, not, length, get_or, take, ltb}
+use Rattle.std.specs.Prelude.{ℕ, ◌+◌, ◌<◌, ◌≡◌, ◌⊎◌, List, [], ◌∷◌, Bool, false, not, length, get_or, ltb, Result, Ok, Err}
 use Rattle.std.proofs.Math.Path.{refl, ap, sym}
 use Rattle.std.proofs.Common.{◌∙◌, arith, length-take, le-ltb}
 use Rattle.std.proofs.Math.Logic.{inl, inr}
@@ -7,11 +7,10 @@ use Rattle.std.proofs.Math.Bool.{true}
 use Rattle.std.proofs.Math.Decide.{ℕ_discrete, dec_lt}
 use Rattle.table.specs.declared.Marks.{Marks}
 use Rattle.table.specs.declared.Place.{Place}
-use Rattle.table.specs.declared.Place.TheVariants.{Idle, New, Asked, FillWrite, FillCopy, StoreWrite, Meet, StoreCopy, Take, Read, Put, Release, Looking, Placing}
+use Rattle.table.specs.declared.Place.TheVariants.{Idle, Read, Put, Release, Looking, Placing}
 use Rattle.table.specs.declared.Task.{Task}
 use Rattle.table.specs.declared.Table.{Table}
-use Rattle.table.specs.declared.Pass.{Pass}
-use Rattle.table.specs.declared.Pass.TheVariants.{On, Stopped}
+use Rattle.table.specs.declared.Refusal.{Refusal}
 use Rattle.table.specs.declared.Answer.TheVariants.{Moved}
 use Rattle.machine.specs.Basics.{pick, first_of}
 use Rattle.machine.specs.Numbers.{refusal}
@@ -21,14 +20,14 @@ use Rattle.machine.specs.Setup.{fresh_task}
 use Rattle.machine.specs.Tasks.{holding_of}
 use Rattle.machine.specs.Flip.{empty_space, tasks_of, passes_of, unasked, unasked_entry, flipped, flip_end, flip_of}
 use Rattle.machine.specs.Objects.Base.{In}
-use Rattle.machine.proofs.Objects.Base.{off_on, sum_to}
+use Rattle.machine.proofs.Objects.Base.{off_on, sum_to, sum_none}
 use Rattle.machine.proofs.Objects.State.{Hd, count, Shape, State, IsPlaced, jobs_in, Meeting}
 use Rattle.machine.proofs.Objects.Inv.{PlaceOk, Off, Inv}
 use Rattle.machine.proofs.Objects.Ops.{state, found_in, flips}
 use Rattle.machine.proofs.Objects.Flipped.{Restful, Comes}
 use Rattle.machine.proofs.Objects.FlipInv.{Mid, readied}
 use Rattle.machine.proofs.Objects.Counts.{Counts}
-use Rattle.machine.proofs.Objects.FlipCounts.{twinned, grey_ones, sum_none, counts_flipped}
+use Rattle.machine.proofs.Objects.FlipCounts.{twinned, grey_ones, counts_flipped}
 use Rattle.machine.proofs.Agree.Encode.{at_place, at_task}
 use Rattle.machine.proofs.Agree.Agree.{bottom, Agree}
 use Rattle.machine.proofs.Agree.Midway.{Midway}
@@ -39,24 +38,13 @@ use Rattle.machine.proofs.Agree.Home.{Home}
 use Rattle.machine.proofs.Agree.FlipVisit.{Visited, Cramped}
 use Rattle.machine.proofs.Agree.FlipPass.{Some, SomePass, All, three_passes, comes_all}
 use Rattle.machine.proofs.Agree.FlipStart.{agree_fewer, midway_made, flip_start}
+use Rattle.std.proofs.lemmas.List.{get_or-take}
 
 -- ---- entries
 at_unasked : (pa ra : ℕ → ℕ) (pl : Place) → unasked (at_place pa ra pl) ≡ at_place pa ra (unasked pl)
 unfolding unasked
 at_unasked pa ra Idle = refl
-at_unasked pa ra (New r len m) = refl
-at_unasked pa ra (Asked r len m) = refl
-at_unasked pa ra (FillWrite v) = refl
-at_unasked pa ra (FillCopy c) = refl
-at_unasked pa ra (StoreWrite v) = refl
-at_unasked pa ra (Meet v) = refl
-at_unasked pa ra (StoreCopy c) = refl
-at_unasked pa ra (Take n) = refl
-at_unasked pa ra (Read n x i) = refl
-at_unasked pa ra (Put n x i c) = refl
-at_unasked pa ra (Release n x i) = refl
-at_unasked pa ra (Looking p th) = refl
-at_unasked pa ra (Placing p th) = refl
+at_unasked pa ra _ = refl
 
 at_unasked_entry : (pa ra : ℕ → ℕ) (e : Task) → unasked_entry (at_task pa ra e) ≡ at_task pa ra (unasked_entry e)
 unfolding unasked_entry
@@ -70,26 +58,12 @@ idle_again e q = rw q refl
 no_job : (K : ℕ → Type 0) (s : ℕ) (sh : Shape) (hd : ℕ → Hd) (prim rep : ℕ → ℕ → ℕ) (has : ℕ → ℕ → Bool) (Mt : ℕ → ℕ → Type 0) (on : Bool) (t : ℕ) (e : Task)
     (pl : Place) → on ≡ false → PlaceOk K s sh hd prim rep has Mt on t e pl → jobs_in (holding_of (unasked pl)) ≡ 0
 unfolding unasked holding_of
-no_job K s sh hd prim rep has Mt on t e Idle f q = refl
-no_job K s sh hd prim rep has Mt on t e (New r len m) f q = refl
-no_job K s sh hd prim rep has Mt on t e (Asked r len m) f q = refl
-no_job K s sh hd prim rep has Mt on t e (FillWrite v) f q = refl
-no_job K s sh hd prim rep has Mt on t e (FillCopy c) f q = refl
-no_job K s sh hd prim rep has Mt on t e (StoreWrite v) f q = refl
-no_job K s sh hd prim rep has Mt on t e (Meet v) f q = refl
-no_job K s sh hd prim rep has Mt on t e (StoreCopy c) f q = refl
-no_job K s sh hd prim rep has Mt on t e (Take n) f q = refl
-no_job K s sh hd prim rep has Mt on t e (Read n x i) f q = off_on (sym f ∙ q.0)
-no_job K s sh hd prim rep has Mt on t e (Put n x i c) f q = off_on (sym f ∙ q.0)
-no_job K s sh hd prim rep has Mt on t e (Release n x i) f q = off_on (sym f ∙ q.0)
+no_job K s sh hd prim rep has Mt on t e (Read n job) f q = off_on (sym f ∙ q.0)
+no_job K s sh hd prim rep has Mt on t e (Put n job c) f q = off_on (sym f ∙ q.0)
+no_job K s sh hd prim rep has Mt on t e (Release n job) f q = off_on (sym f ∙ q.0)
 no_job K s sh hd prim rep has Mt on t e (Looking p th) f q = off_on (sym f ∙ q.0)
 no_job K s sh hd prim rep has Mt on t e (Placing p th) f q = off_on (sym f ∙ q.0)
-
-get_d_take : {A : Type 0} (n : ℕ) (l : List A) (r : ℕ) (d : A) → r < n → get_or (take n l) r d ≡ get_or l r d
-get_d_take zero l r d a = absurd (omega arith)
-get_d_take (suc n) [] r d a = refl
-get_d_take (suc n) (b ∷ l) zero d a = refl
-get_d_take (suc n) (b ∷ l) (suc r) d a = get_d_take n l r d (omega arith)
+no_job K s sh hd prim rep has Mt on t e _ f q = refl
 
 -- a flip that was made: what it visited, and where the replicas are
 pub record FlipMade (K : ℕ → Type 0) (pa : ℕ → ℕ) (o : State) (t : Table) (ws : List ℕ) : Type 0 where
@@ -126,7 +100,7 @@ module _ {K : ℕ → Type 0} {pa ra : ℕ → ℕ} {o : State} {t : Table} {ws 
   same : (r : ℕ) → r < length (tasks_of t) → get_or (tasks_of t) r no_task ≡ at_task pa ra (o.tasks r)
   same r l =
       let m : r < t.limits.p = omega (arith, l, many) in
-      get_d_take t.limits.p t.tasks r no_task m ∙ k.tasks r (omega (arith, m, k.sized.limited.p_high))
+      get_or-take t.limits.p t.tasks r no_task m ∙ k.tasks r (omega (arith, m, k.sized.limited.p_high))
 
   some_flip : Some K pa o base end' (length ws) (All K pa o base end' (length ws) t.limits.p) (passes_of t ws)
   unfolding passes_of
@@ -210,15 +184,15 @@ module _ {K : ℕ → Type 0} {pa ra : ℕ → ℕ} {o : State} {t : Table} {ws 
     agree_flips = rw same_state agree_now
 
   -- the passes stop at an object that finds no room, or the flip is made
-  pub flip_either : (((passes_of t ws).pass ≡ Stopped (refusal 10)) × Cramped K pa o (bottom_of (not t.upper) t.limits.h) (end_of (not t.upper) t.limits.h) (length ws))
+  pub flip_either : (((passes_of t ws).pass ≡ Err (refusal 10)) × Cramped K pa o (bottom_of (not t.upper) t.limits.h) (end_of (not t.upper) t.limits.h) (length ws))
       ⊎ FlipMade K pa o t ws
   unfolding flip_of
   flip_either = go (passes_of t ws).pass refl some_flip
     where
-      go : (x : Pass) → (passes_of t ws).pass ≡ x → SomePass K pa o base end' (length ws) (All K pa o base end' (length ws) t.limits.p) x (passes_of t ws).words
-          → (((passes_of t ws).pass ≡ Stopped (refusal 10)) × Cramped K pa o base end' (length ws)) ⊎ FlipMade K pa o t ws
-      go (Stopped x) e a = inl (e ∙ ap Stopped a.0, a.1)
-      go (On m) e (vs, b, d) = inr record {
+      go : (x : Result Marks Refusal) → (passes_of t ws).pass ≡ x → SomePass K pa o base end' (length ws) (All K pa o base end' (length ws) t.limits.p) x (passes_of t ws).words
+          → (((passes_of t ws).pass ≡ Err (refusal 10)) × Cramped K pa o base end' (length ws)) ⊎ FlipMade K pa o t ws
+      go (Err x) e a = inl (e ∙ ap Err a.0, a.1)
+      go (Ok m) e (vs, b, d) = inr record {
         marks = m;
         words = (passes_of t ws).words;
         visited = vs;
@@ -240,7 +214,7 @@ module _ {K : ℕ → Type 0} {pa ra : ℕ → ℕ} {o : State} {t : Table} {ws 
   unfolding flip_of
   flip_words = go flip_either
     where
-      go : (((passes_of t ws).pass ≡ Stopped (refusal 10)) × Cramped K pa o base end' (length ws)) ⊎ FlipMade K pa o t ws
+      go : (((passes_of t ws).pass ≡ Err (refusal 10)) × Cramped K pa o base end' (length ws)) ⊎ FlipMade K pa o t ws
           → (ends (flip_end t (passes_of t ws).pass) (passes_of t ws).words ≡ ends (refused t (refusal 10)) (passes_of t ws).words) ⊎ FlipMade K pa o t ws
       go (inl (e, a)) = inl (rw e refl)
       go (inr f) = inr f

@@ -1,20 +1,19 @@
 -- What every call tests first, passed: limits and buffer, the dead number, the table's numbers; the task and the registers.
-use Rattle.std.specs.Prelude.{ℕ, zero, suc, ◌+◌, ◌-◌, ◌*◌, ◌≤◌, ◌≡◌, List, Bool, true, length, ltb}
+use Rattle.std.specs.Prelude.{ℕ, ◌+◌, ◌-◌, ◌*◌, ◌≤◌, ◌≡◌, List, Bool, true, length, ltb, Ok, Err}
 use Rattle.std.proofs.Math.Path.{refl}
 use Rattle.std.proofs.Common.{arith, le-ltb, eq-eqb}
 use Rattle.table.specs.declared.Limits.{Limits}
 use Rattle.table.specs.declared.Marks.{Marks}
 use Rattle.table.specs.declared.Table.{Table}
 use Rattle.table.specs.declared.Holding.{Holding}
-use Rattle.table.specs.declared.Holding.TheVariants.{Rests, Asks, Free, Job, Claim, Both}
-use Rattle.table.specs.declared.Gate.TheVariants.{Open, Shut}
+use Rattle.table.specs.declared.Holding.TheVariants.{Rests}
 use Rattle.machine.specs.Basics.{pick}
 use Rattle.machine.specs.Numbers.{refusal}
 use Rattle.machine.specs.Words.{bottom_of, end_of}
 use Rattle.machine.specs.Gate.{limits_ok, sizes_ok, marks_ok, gate_of, behind, task_gate_of, pair_gate_of, table_gate, call_gate, pair_gate}
 use Rattle.machine.specs.Bounds.{Limited, Sized}
 use Rattle.machine.specs.Tasks.{holding_of}
-use Rattle.machine.proofs.Objects.Base.{sum_to}
+use Rattle.machine.proofs.Objects.Base.{sum_ones}
 use Rattle.machine.proofs.Objects.State.{State, jobs_in}
 use Rattle.machine.proofs.Agree.Agree.{Agree}
 use Rattle.machine.proofs.Agree.Spaces.{top_high}
@@ -22,16 +21,7 @@ use Rattle.machine.proofs.Agree.Spaces.{top_high}
 -- ---- jobs in hand: at most one a task
 pub jobs_one : (h : Holding) → jobs_in h ≤ 1
 jobs_one Rests = omega arith
-jobs_one Asks = omega arith
-jobs_one Free = omega arith
-jobs_one (Job y j) = omega arith
-jobs_one (Claim p) = omega arith
-jobs_one (Both p y j) = omega arith
-
-sum_ones : (n : ℕ) (f : ℕ → ℕ) → ((x : ℕ) → f x ≤ 1) → sum_to n f ≤ n
-unfolding sum_to
-sum_ones zero f h = omega arith
-sum_ones (suc n) f h = omega (arith, h n, sum_ones n f h)
+jobs_one _ = omega arith
 
 -- ---- the tests, of numbers
 limits_ok_lem : (l : Limits) → Limited l → 1 ≤ l.s → limits_ok l ≡ true
@@ -75,7 +65,7 @@ module _ {K : ℕ → Type 0} {pa ra : ℕ → ℕ} {o : State} {t : Table} {ws 
       )
 
   -- the limits that the tests ask for: S is at least 1, which no clause of `Agree` says
-  pub table_gate_lem : 1 ≤ t.limits.s → table_gate t ws ≡ Open
+  pub table_gate_lem : 1 ≤ t.limits.s → table_gate t ws ≡ Ok tt
   unfolding gate_of
   table_gate_lem s =
       rw (
@@ -84,11 +74,11 @@ module _ {K : ℕ → Type 0} {pa ra : ℕ → ℕ} {o : State} {t : Table} {ws 
         marks_ok_lem t.limits t.upper t.marks k.marked.based k.marked.free (top_high k) jobs_high k.marked.copies,
       ) refl
 
-  pub call_gate_lem : 1 ≤ t.limits.s → (task : ℕ) → call_gate t ws task ≡ pick (ltb task t.limits.p) Open (Shut (refusal 2))
+  pub call_gate_lem : 1 ≤ t.limits.s → (task : ℕ) → call_gate t ws task ≡ pick (ltb task t.limits.p) (Ok tt) (Err (refusal 2))
   unfolding task_gate_of
   call_gate_lem s task = rw (table_gate_lem s) refl
 
   pub pair_gate_lem : 1 ≤ t.limits.s → (task a b : ℕ) → pair_gate t ws task a b
-      ≡ behind (pick (ltb task t.limits.p) Open (Shut (refusal 2))) (pick (ltb 7 a) (Shut (refusal 3)) (pick (ltb 7 b) (Shut (refusal 3)) Open))
+      ≡ behind (pick (ltb task t.limits.p) (Ok tt) (Err (refusal 2))) (pick (ltb 7 a) (Err (refusal 3)) (pick (ltb 7 b) (Err (refusal 3)) (Ok tt)))
   unfolding pair_gate_of
   pair_gate_lem s task a b = rw (call_gate_lem s task) refl

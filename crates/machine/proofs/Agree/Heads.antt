@@ -3,13 +3,11 @@ use Rattle.std.specs.Prelude.{ℕ, zero, suc, ◌+◌, ◌-◌, ◌≤◌, ◌<�
 use Rattle.std.proofs.Common.{ap, sym, ◌∙◌, inl, inr, arith, length-set, eqb-true}
 use Rattle.table.specs.declared.Task.{Task}
 use Rattle.table.specs.declared.Table.{Table}
-use Rattle.table.specs.declared.Holding.{Holding}
-use Rattle.table.specs.declared.Holding.TheVariants.{Rests, Asks, Free, Job, Claim, Both}
 use Rattle.machine.specs.Basics.{pick}
 use Rattle.machine.specs.Entries.{marks_at, entered}
 use Rattle.machine.specs.Tasks.{holding_of}
 use Rattle.machine.proofs.Objects.Base.{upd, upd_same, upd_other, upd_all, sum_to, sum_to_at, sum_to_part}
-use Rattle.machine.proofs.Objects.State.{Hd, white, claimed, count, locked, State, IsPlaced, owes, JobIn, jobs_in, Late}
+use Rattle.machine.proofs.Objects.State.{Hd, white, claimed, count, locked, State, IsPlaced, owes, jobs_in, Late}
 use Rattle.machine.proofs.Objects.Inv.{Colours, Inv}
 use Rattle.machine.proofs.Objects.Ops.{push, heads}
 use Rattle.machine.proofs.Agree.Encode.{at_task, header_word, copy_word}
@@ -18,15 +16,7 @@ use Rattle.machine.specs.Agree.Agree.{end}
 use Rattle.machine.proofs.Agree.Agree.{Held, addr, Ok, content, Lay, bottom, Agree}
 use Rattle.machine.proofs.Agree.Apart.{apart}
 use Rattle.machine.proofs.Agree.Enter.{bounds, job_counted, enter}
-
--- a task with a job has one
-one_job : (h : Holding) (x i : ℕ) → JobIn h x i → jobs_in h ≡ 1
-one_job Rests x i j = absurd j
-one_job Asks x i j = absurd j
-one_job Free x i j = absurd j
-one_job (Job y k) x i j = refl
-one_job (Claim p) x i j = absurd j
-one_job (Both p y k) x i j = refl
+use Rattle.machine.proofs.Objects.Final.{job_counts}
 
 -- the header of x changes from h₀ to h
 module _ {K : ℕ → Type 0} {pa ra : ℕ → ℕ} {o : State} {t : Table} {ws : List ℕ} (k : Agree K pa ra o t ws) (x : ℕ) (h₀ h : Hd) (was : o.hd x ≡ h₀)
@@ -180,7 +170,7 @@ module _ {K : ℕ → Type 0} {pa ra : ℕ → ℕ} {o : State} {t : Table} {ws 
 
       -- the task has a job, and the job kept a word of the stack
       counted : 1 ≤ t.marks.j
-      counted = omega (arith, job_counted k i il, one_job (holding_of (o.tasks i).place) x c (v.owners.locker x c i w).4)
+      counted = omega (arith, job_counted k i il, job_counts (holding_of (o.tasks i).place) x c (v.owners.locker x c i w).4)
 
       part : 1 ≤ sum_to (suc o.shape.n) (λ y. owes (o.hd y))
       part = let a : owes (o.hd x) ≡ suc c = ap owes w in omega (arith, sum_to_part (suc o.shape.n) x (λ y. owes (o.hd y)) (omega (arith, hx)))

@@ -1,28 +1,26 @@
 -- The searches over a list of tasks: what is found passes the test, what passes the test is found.
-use Rattle.std.specs.Prelude.{ℕ, zero, suc, ◌+◌, ◌≤◌, ◌<◌, ◌≡◌, refl, List, [], ◌∷◌, Bool, true, false, length, get_or, take}
+use Rattle.std.specs.Prelude.{ℕ, zero, suc, ◌+◌, ◌≤◌, ◌<◌, ◌≡◌, refl, List, [], ◌∷◌, Bool, true, false, length, get_or, take, Option, Some, None}
 use Rattle.std.proofs.Common.{ap, sym, ◌∙◌, arith, get_or-take}
 use Rattle.table.specs.declared.Task.{Task}
-use Rattle.table.specs.declared.Found.{Found}
-use Rattle.table.specs.declared.Found.TheVariants.{At, Nobody}
 use Rattle.machine.specs.Basics.{pick}
 use Rattle.machine.specs.Entries.{no_task}
 use Rattle.machine.specs.Tasks.{lowest_of, is_found}
 use Rattle.machine.proofs.Objects.Base.{clash, off_on}
 
 -- ---- what a search says it found
-pub found_at : (f : Found) → is_found f ≡ true → (q : ℕ) × (f ≡ At q)
-found_at (At q) e = (q, refl)
-found_at Nobody e = off_on e
+pub found_at : (f : Option ℕ) → is_found f ≡ true → (q : ℕ) × (f ≡ Some q)
+found_at (Some q) e = (q, refl)
+found_at None e = off_on e
 
 -- ---- among all of a list, whose first has number i
-lowest_is : (test : ℕ → Task → Bool) (l : List Task) (i q : ℕ) → lowest_of test l i ≡ At q
+lowest_is : (test : ℕ → Task → Bool) (l : List Task) (i q : ℕ) → lowest_of test l i ≡ Some q
     → (j : ℕ) × (q ≡ i + j) × (j < length l) × (test q (get_or l j no_task) ≡ true)
 unfolding lowest_of
-lowest_is test [] i q e = let z : ◌≡◌ {A = ℕ} 0 1 = cc in clash z
+lowest_is test [] i q e = clash cc
 lowest_is test (a ∷ l) i q e = go (test i a) refl (lowest_is test l (suc i) q) e
   where
-    go : (b : Bool) → test i a ≡ b → (lowest_of test l (suc i) ≡ At q → (j : ℕ) × (q ≡ suc i + j) × (j < length l) × (test q (get_or l j no_task) ≡ true))
-        → pick b (At i) (lowest_of test l (suc i)) ≡ At q → (j : ℕ) × (q ≡ i + j) × (j < length (a ∷ l)) × (test q (get_or (a ∷ l) j no_task) ≡ true)
+    go : (b : Bool) → test i a ≡ b → (lowest_of test l (suc i) ≡ Some q → (j : ℕ) × (q ≡ suc i + j) × (j < length l) × (test q (get_or l j no_task) ≡ true))
+        → pick b (Some i) (lowest_of test l (suc i)) ≡ Some q → (j : ℕ) × (q ≡ i + j) × (j < length (a ∷ l)) × (test q (get_or (a ∷ l) j no_task) ≡ true)
     go true h ih e = let z : i ≡ q = cc in (0, omega arith, omega arith, ap (λ n. test n a) (sym z) ∙ h)
     go false h ih e = let m = ih e in (suc m.0, omega (arith, m.1), omega (arith, m.2), m.3)
 
@@ -33,7 +31,7 @@ lowest_some test [] i j n s m e = absurd (omega arith)
 lowest_some test (a ∷ l) i zero n s m e = let z : i ≡ n = omega arith in rw (ap (λ n. test n a) z ∙ e) refl
 lowest_some test (a ∷ l) i (suc j) n s m e = go (test i a) (lowest_some test l (suc i) j n (omega arith) (omega arith) e)
   where
-    go : (b : Bool) → is_found (lowest_of test l (suc i)) ≡ true → is_found (pick b (At i) (lowest_of test l (suc i))) ≡ true
+    go : (b : Bool) → is_found (lowest_of test l (suc i)) ≡ true → is_found (pick b (Some i) (lowest_of test l (suc i))) ≡ true
     go true ih = refl
     go false ih = ih
 
@@ -49,7 +47,7 @@ long_taken (suc p) [] i a b = absurd (omega arith)
 long_taken (suc p) (e ∷ l) zero a b = omega arith
 long_taken (suc p) (e ∷ l) (suc i) a b = omega (arith, long_taken p l i (omega arith) (omega arith))
 
-pub lowest_found : (test : ℕ → Task → Bool) (ts : List Task) (p q : ℕ) → lowest_of test (take p ts) 0 ≡ At q → (q < p) × (test q (get_or ts q no_task) ≡ true)
+pub lowest_found : (test : ℕ → Task → Bool) (ts : List Task) (p q : ℕ) → lowest_of test (take p ts) 0 ≡ Some q → (q < p) × (test q (get_or ts q no_task) ≡ true)
 lowest_found test ts p q e =
     let m = lowest_is test (take p ts) 0 q e in
     let l : q < p = omega (arith, m.1, m.2, length_taken p ts) in

@@ -2,16 +2,15 @@
 use Rattle.std.specs.Prelude.{ℕ, zero, suc, ◌+◌, ◌*◌, ◌≤◌, ◌<◌, ◌≡◌, refl, ◌≢◌, List, [], ◌∷◌, Bool, true, false, length, get_or, set}
 use Rattle.std.proofs.Common.{ap, sym, ◌∙◌, inl, inr, arith, length-set}
 use Rattle.std.proofs.Math.Decide.{ℕ_discrete}
-use Rattle.table.specs.declared.Pending.TheVariants.{Making}
 use Rattle.table.specs.declared.Place.{Place}
-use Rattle.table.specs.declared.Place.TheVariants.{Idle, New, Asked, FillWrite, FillCopy, StoreWrite, Meet, StoreCopy, Take, Read, Put, Release, Looking, Placing}
+use Rattle.table.specs.declared.Place.TheVariants.{Read, Put, Release, Looking, Placing}
 use Rattle.table.specs.declared.Task.{Task}
 use Rattle.table.specs.declared.Table.{Table}
 use Rattle.machine.specs.Words.{primary, descriptor, laid}
-use Rattle.machine.specs.Entries.{marks_at, entered}
+use Rattle.machine.specs.Entries.{marks_at, entered, pending_with}
 use Rattle.machine.specs.Tasks.{holding_of}
 use Rattle.machine.specs.New.{made}
-use Rattle.machine.proofs.Objects.Base.{off_on, upd, upd_same, upd_other, sum_to, sum_to_ext}
+use Rattle.machine.proofs.Objects.Base.{off_on, upd, upd_same, upd_other, sum_to, sum_to_ext, sum_none}
 use Rattle.machine.proofs.Objects.State.{Hd, count, Shape, State, IsPlaced, owes, jobs_in, Meeting, Late}
 use Rattle.machine.proofs.Objects.Inv.{Colours, Off, PlaceOk, Inv}
 use Rattle.machine.proofs.Objects.Ops.{one_more, makes}
@@ -29,25 +28,12 @@ use Rattle.machine.proofs.Agree.Block.{older_same, at_new, make_off_tasks, make_
 no_job : (K : ℕ → Type 0) (s : ℕ) (sh : Shape) (hd : ℕ → Hd) (prim rep : ℕ → ℕ → ℕ) (has : ℕ → ℕ → Bool) (Mt : ℕ → ℕ → Type 0) (u : ℕ) (e : Task) (pl : Place)
     → PlaceOk K s sh hd prim rep has Mt false u e pl → jobs_in (holding_of pl) ≡ 0
 unfolding holding_of
-no_job K s sh hd prim rep has Mt u e Idle h = refl
-no_job K s sh hd prim rep has Mt u e (New r len m) h = refl
-no_job K s sh hd prim rep has Mt u e (Asked r len m) h = refl
-no_job K s sh hd prim rep has Mt u e (FillWrite w) h = refl
-no_job K s sh hd prim rep has Mt u e (FillCopy c) h = refl
-no_job K s sh hd prim rep has Mt u e (StoreWrite w) h = refl
-no_job K s sh hd prim rep has Mt u e (Meet w) h = refl
-no_job K s sh hd prim rep has Mt u e (StoreCopy c) h = refl
-no_job K s sh hd prim rep has Mt u e (Take n) h = refl
-no_job K s sh hd prim rep has Mt u e (Read n x i) h = off_on h.0
-no_job K s sh hd prim rep has Mt u e (Put n x i c) h = off_on h.0
-no_job K s sh hd prim rep has Mt u e (Release n x i) h = off_on h.0
+no_job K s sh hd prim rep has Mt u e (Read n job) h = off_on h.0
+no_job K s sh hd prim rep has Mt u e (Put n job c) h = off_on h.0
+no_job K s sh hd prim rep has Mt u e (Release n job) h = off_on h.0
 no_job K s sh hd prim rep has Mt u e (Looking q th) h = off_on h.0
 no_job K s sh hd prim rep has Mt u e (Placing q th) h = off_on h.0
-
-sum_none : (n : ℕ) → sum_to n (λ u. 0) ≡ 0
-unfolding sum_to
-sum_none zero = refl
-sum_none (suc n) = omega (arith, sum_none n)
+no_job K s sh hd prim rep has Mt u e _ h = refl
 
 sum_more : (n : ℕ) (f : ℕ → ℕ) → sum_to (suc n) f ≡ f n + sum_to n f
 unfolding sum_to
@@ -55,7 +41,7 @@ sum_more n f = refl
 
 -- the pending object as the table has it
 pub made_at : (pa : ℕ → ℕ) (o : State) (t : Table) (r len : ℕ)
-    → made t.marks r len ≡ at_pending (upd pa (suc o.shape.n) (t.marks.a + 2)) (Making (primary (suc o.shape.n)) r len 0)
+    → made t.marks r len ≡ at_pending (upd pa (suc o.shape.n) (t.marks.a + 2)) (pending_with (primary (suc o.shape.n)) r len 0)
 made_at pa o t r len = rw (upd_same pa (suc o.shape.n) (t.marks.a + 2))
 
 module _ {K : ℕ → Type 0} {pa ra : ℕ → ℕ} {o : State} {t : Table} {ws : List ℕ} (v : Inv K t.limits.p t.limits.s o) (k : Agree K pa ra o t ws) (i : ℕ)
@@ -128,7 +114,7 @@ module _ {K : ℕ → Type 0} {pa ra : ℕ → ℕ} {o : State} {t : Table} {ws 
           k.marked.jobs
           ∙ sum_to_ext t.limits.p (λ u. jobs_in (holding_of (o.tasks u).place)) (λ u. 0)
           (λ u l. no_job K t.limits.s o.shape o.hd o.prim o.rep o.has (Meeting o.tasks) u (o.tasks u) (o.tasks u).place (rw off at (v.places u)))
-          ∙ sum_none t.limits.p
+          ∙ sum_none t.limits.p (λ u. 0) (λ u m. refl)
 
       lay : Lay K sh' o.hd pa' ra (bottom t) (t.marks.a + (len + 2)) (end t) (length ws)
       lay = record {

@@ -1,8 +1,7 @@
 -- The space that copies go to, while objects are given replicas; what `place_of` leaves, by its room test.
-use Rattle.std.specs.Prelude.{ℕ, suc, ◌+◌, ◌-◌, ◌≤◌, ◌<◌, ◌≡◌, refl, List, [], Bool, true, false, length, set, eqb}
+use Rattle.std.specs.Prelude.{ℕ, suc, ◌+◌, ◌-◌, ◌≤◌, ◌<◌, ◌≡◌, refl, List, [], Bool, true, false, length, set, eqb, Some, None}
 use Rattle.std.proofs.Common.{◌∙◌, arith, length-set, eqb-true, leb-true}
 use Rattle.table.specs.declared.Marks.{Marks}
-use Rattle.table.specs.declared.Placed.TheVariants.{Twin, Full}
 use Rattle.machine.specs.Basics.{pick}
 use Rattle.machine.specs.Words.{primary, replica, room_for}
 use Rattle.machine.specs.Entries.{marks_at}
@@ -35,39 +34,39 @@ twin_words m ws p c = pick (eqb c 0) (forwarded_to ws m.a (primary p) c) (set (f
 
 -- what `place_of` does, by its room test
 pub place_of_fits : (m : Marks) (end : ℕ) (ws : List ℕ) (p len c : ℕ) → room_for true m end (twin_need len c) ≡ true
-    → place_of m end ws (primary p) len c ≡ placed_in (Twin (twin_marks m len c) (replica (m.a + 2))) (twin_words m ws p c)
+    → place_of m end ws (primary p) len c ≡ placed_in (Some (twin_marks m len c, replica (m.a + 2))) (twin_words m ws p c)
 unfolding place_of
 place_of_fits m end ws p len c r = go (eqb c 0) refl r
   where
     go : (b : Bool) → eqb c 0 ≡ b → room_for true m end (pick b (len + 2) (len + 3)) ≡ true
         → pick b
         (pick (room_for true m end (len + 2))
-        (placed_in (Twin (marks_at (m.a + (len + 2)) m.top m.j m.copies) (replica (m.a + 2))) (forwarded_to ws m.a (primary p) 0))
-        (placed_in Full ws))
+        (placed_in (Some (marks_at (m.a + (len + 2)) m.top m.j m.copies, replica (m.a + 2))) (forwarded_to ws m.a (primary p) 0))
+        (placed_in None ws))
         (pick (room_for true m end (len + 3))
-        (placed_in (Twin (marks_at (m.a + (len + 2)) (m.top - 1) m.j m.copies) (replica (m.a + 2)))
+        (placed_in (Some (marks_at (m.a + (len + 2)) (m.top - 1) m.j m.copies, replica (m.a + 2)))
         (set (forwarded_to ws m.a (primary p) c) (m.top - 1) p))
-        (placed_in Full ws))
-        ≡ placed_in (Twin (marks_at (m.a + (len + 2)) (pick b m.top (m.top - 1)) m.j m.copies) (replica (m.a + 2)))
+        (placed_in None ws))
+        ≡ placed_in (Some (marks_at (m.a + (len + 2)) (pick b m.top (m.top - 1)) m.j m.copies, replica (m.a + 2)))
         (pick b (forwarded_to ws m.a (primary p) c) (set (forwarded_to ws m.a (primary p) c) (m.top - 1) p))
     go true e q = rw (q, eqb-true c 0 e)
     go false e q = rw q
 
 pub no_room : (m : Marks) (end : ℕ) (ws : List ℕ) (p len c : ℕ) → room_for true m end (twin_need len c) ≡ false
-    → place_of m end ws (primary p) len c ≡ placed_in Full ws
+    → place_of m end ws (primary p) len c ≡ placed_in None ws
 unfolding place_of
 no_room m end ws p len c r = go (eqb c 0) r
   where
     go : (b : Bool) → room_for true m end (pick b (len + 2) (len + 3)) ≡ false
         → pick b
         (pick (room_for true m end (len + 2))
-        (placed_in (Twin (marks_at (m.a + (len + 2)) m.top m.j m.copies) (replica (m.a + 2))) (forwarded_to ws m.a (primary p) 0))
-        (placed_in Full ws))
+        (placed_in (Some (marks_at (m.a + (len + 2)) m.top m.j m.copies, replica (m.a + 2))) (forwarded_to ws m.a (primary p) 0))
+        (placed_in None ws))
         (pick (room_for true m end (len + 3))
-        (placed_in (Twin (marks_at (m.a + (len + 2)) (m.top - 1) m.j m.copies) (replica (m.a + 2)))
+        (placed_in (Some (marks_at (m.a + (len + 2)) (m.top - 1) m.j m.copies, replica (m.a + 2)))
         (set (forwarded_to ws m.a (primary p) c) (m.top - 1) p))
-        (placed_in Full ws))
-        ≡ placed_in Full ws
+        (placed_in None ws))
+        ≡ placed_in None ws
     go true q = rw q
     go false q = rw q
 

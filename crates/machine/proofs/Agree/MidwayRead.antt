@@ -7,10 +7,9 @@ use Rattle.std.proofs.Math.ListN.{length, get_or}
 use borrow.Author.Tests.{le-ltb, ne_eqb}
 use Rattle.table.specs.declared.Marks.{Marks}
 use Rattle.table.specs.declared.Table.{Table}
-use Rattle.table.specs.declared.Object.TheVariants.{Whole}
 use Rattle.table.specs.declared.Look.{Look}
 use Rattle.table.specs.declared.Look.TheVariants.{White, Claimed, Forwarded}
-use Rattle.machine.specs.Words.{primary, replica, descriptor, length_in, pointers_in, object_by, object_of, header_of, look_of, bottom_of, end_of}
+use Rattle.machine.specs.Words.{primary, replica, descriptor, length_in, pointers_in, object_by, object_of, header_of, look_of, bottom_of, end_of, described}
 use Rattle.machine.proofs.Objects.State.{Hd, white, claimed, count, locked, Shape, State}
 use Rattle.machine.proofs.Agree.Encode.{header_word}
 use Rattle.machine.proofs.Agree.Mem.{P}
@@ -25,7 +24,7 @@ found_by r len (claimed t) = Claimed
 found_by r len (count c) = Forwarded (replica r) len
 found_by r len (locked i t) = Forwarded (replica r) len
 
-pub whole : (n s p len m : ℕ) → len ≤ s → m ≤ len → s ≤ 255 → p + len ≤ n → object_by n s p (descriptor len m) ≡ Whole len m
+pub whole : (n s p len m : ℕ) → len ≤ s → m ≤ len → s ≤ 255 → p + len ≤ n → object_by n s p (descriptor len m) ≡ described len m
 whole n s p len m a b c d =
     let l : length_in (descriptor len m) ≡ len = omega arith in
     let q : pointers_in (descriptor len m) ≡ m = omega arith in
@@ -37,7 +36,7 @@ forwarded n len h a b =
 
 module _ {K : ℕ → Type 0} {pa ra : ℕ → ℕ} {sh : Shape} {hd : ℕ → Hd} {prim rep : ℕ → ℕ → ℕ} {has : ℕ → ℕ → Bool} {stack : List ℕ} {base end : ℕ} {m : Marks} {ws : List ℕ}
     (k : Midway K pa ra sh hd prim rep has stack base end m ws) (s : ℕ) (s_high : s ≤ 255) (x : ℕ) (held : Held K sh x) (high : sh.len x ≤ s) (low : sh.ptr x ≤ sh.len x) where
-  pub object_in : object_of ws s (primary (pa x)) ≡ Whole (sh.len x) (sh.ptr x)
+  pub object_in : object_of ws s (primary (pa x)) ≡ described (sh.len x) (sh.ptr x)
   unfolding object_of
   object_in =
       let i : (4 ≤ pa x) × (pa x + sh.len x ≤ length ws) = k.lay.inside x held in

@@ -1,19 +1,16 @@
 -- Addresses that are the same for all objects made so far say the same in the table.
-use Rattle.std.specs.Prelude.{ℕ, suc, ◌≤◌, ◌<◌, ◌≡◌, refl, List, [], ◌∷◌, map, Bool, true, false, ltb}
+use Rattle.std.specs.Prelude.{ℕ, suc, ◌≤◌, ◌<◌, ◌≡◌, refl, List, [], ◌∷◌, map, Bool, true, false, ltb, Option, Some, None}
 use Rattle.std.proofs.Common.{ap, ltb-true}
 use Rattle.table.specs.declared.Primary.{Primary}
+use Rattle.table.specs.declared.Making.{Making}
+use Rattle.table.specs.declared.Slot.{Slot}
 use Rattle.table.specs.declared.Operand.{Operand}
+use Rattle.table.specs.declared.Replica.{Replica}
 use Rattle.table.specs.declared.Operand.TheVariants.{Plain, Pointer}
-use Rattle.table.specs.declared.Copied.{Copied}
-use Rattle.table.specs.declared.Copied.TheVariants.{Same, Renamed}
-use Rattle.table.specs.declared.Pending.{Pending}
-use Rattle.table.specs.declared.Pending.TheVariants.{Nothing, Making}
-use Rattle.table.specs.declared.Storing.{Storing}
-use Rattle.table.specs.declared.Storing.TheVariants.{Nowhere, Slot}
 use Rattle.table.specs.declared.Then.{Then}
 use Rattle.table.specs.declared.Then.TheVariants.{ToWrite, ToStoreCopy, ToFillCopy, ToPut}
 use Rattle.table.specs.declared.Place.{Place}
-use Rattle.table.specs.declared.Place.TheVariants.{Idle, New, Asked, FillWrite, FillCopy, StoreWrite, Meet, StoreCopy, Take, Read, Put, Release, Looking, Placing}
+use Rattle.table.specs.declared.Place.TheVariants.{FillWrite, FillCopy, StoreWrite, Meet, StoreCopy, Read, Put, Release, Looking, Placing}
 use Rattle.table.specs.declared.Task.{Task}
 use Rattle.machine.specs.Basics.{pick}
 use Rattle.machine.proofs.Objects.State.{locked, State, root, Meeting}
@@ -34,21 +31,21 @@ module _ {K : ℕ → Type 0} {p s : ℕ} {o : State} (v : Inv K p s o) {pa pa' 
   list_same [] h = refl
   list_same (x ∷ l) h = rw (sp x.0 (h 0), list_same l (λ r. h (suc r)))
 
-  operand_same : (w : Operand) → SoundOperand K o.shape w → at_operand pa w ≡ at_operand pa' w
+  operand_same : (w : Operand Primary) → SoundOperand K o.shape w → at_operand pa w ≡ at_operand pa' w
   operand_same (Plain w) h = refl
   operand_same (Pointer x) h = rw (sp x.0 h.1)
 
-  copied_same : (c : Copied) → SoundCopied K o.shape o.hd c → at_copied ra c ≡ at_copied ra' c
-  copied_same (Same w) h = refl
-  copied_same (Renamed x) h = rw (sr x.0 h.0.1)
+  copied_same : (c : Operand Replica) → SoundCopied K o.shape o.hd c → at_copied ra c ≡ at_copied ra' c
+  copied_same (Plain w) h = refl
+  copied_same (Pointer x) h = rw (sr x.0 h.0.1)
 
-  pending_same : (pd : Pending) → PendingOk K o.shape o.hd o.on pd → at_pending pa pd ≡ at_pending pa' pd
-  pending_same Nothing h = refl
-  pending_same (Making x r len f) h = rw (sp x.0 h.2)
+  pending_same : (pd : Option Making) → PendingOk K o.shape o.hd o.on pd → at_pending pa pd ≡ at_pending pa' pd
+  pending_same None h = refl
+  pending_same (Some d) h = rw (sp d.at.0 h.2)
 
-  storing_same : (st : Storing) → StoringOk K o.shape st → at_storing pa st ≡ at_storing pa' st
-  storing_same Nowhere h = refl
-  storing_same (Slot x i) h = rw (sp x.0 h.1.1)
+  storing_same : (st : Option Slot) → StoringOk K o.shape st → at_storing pa st ≡ at_storing pa' st
+  storing_same None h = refl
+  storing_same (Some y) h = rw (sp y.object.0 h.1.1)
 
   locked_same : (x i u : ℕ) → o.hd x ≡ locked i u → pa x ≡ pa' x
   locked_same x i u h = sp x (v.owners.locker x i u h).2
@@ -57,24 +54,21 @@ module _ {K : ℕ → Type 0} {p s : ℕ} {o : State} (v : Inv K p s o) {pa pa' 
   then_same u e q (ToWrite w) h = ap ToWrite (operand_same w h.2)
   then_same u e q ToStoreCopy h = refl
   then_same u e q ToFillCopy h = refl
-  then_same u e q (ToPut n x i) h = rw (locked_same x.0 i u h.1)
+  then_same u e q (ToPut n job) h = rw (locked_same job.object.0 job.index u h.1)
 
   place_same : (u : ℕ) (e : Task) (pl : Place)
       → PlaceOk K s o.shape o.hd o.prim o.rep o.has (Meeting o.tasks) o.on u e pl → at_place pa ra pl ≡ at_place pa' ra' pl
-  place_same u e Idle h = refl
-  place_same u e (New r len m) h = refl
-  place_same u e (Asked r len m) h = refl
   place_same u e (FillWrite w) h = ap FillWrite (operand_same w h.2)
   place_same u e (FillCopy c) h = ap FillCopy (copied_same c h.2)
   place_same u e (StoreWrite w) h = ap StoreWrite (operand_same w h.1)
   place_same u e (Meet w) h = ap Meet (operand_same w h.2)
   place_same u e (StoreCopy c) h = ap StoreCopy (copied_same c h.2)
-  place_same u e (Take n) h = refl
-  place_same u e (Read n x i) h = rw (locked_same x.0 i u h.2)
-  place_same u e (Put n x i c) h = rw (locked_same x.0 i u h.2, copied_same c h.5)
-  place_same u e (Release n x i) h = rw (locked_same x.0 i u h.2)
+  place_same u e (Read n job) h = rw (locked_same job.object.0 job.index u h.2)
+  place_same u e (Put n job c) h = rw (locked_same job.object.0 job.index u h.2, copied_same c h.5)
+  place_same u e (Release n job) h = rw (locked_same job.object.0 job.index u h.2)
   place_same u e (Looking q th) h = rw (sp q.0 h.2.1, then_same u e q.0 th h.3)
   place_same u e (Placing q th) h = rw (sp q.0 h.2.1, then_same u e q.0 th h.4)
+  place_same u e _ h = refl
 
   pub task_same : (u : ℕ) → at_task pa ra (o.tasks u) ≡ at_task pa' ra' (o.tasks u)
   task_same u =

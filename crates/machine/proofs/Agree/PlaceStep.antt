@@ -6,18 +6,19 @@ use Rattle.std.proofs.Math.Bool.{true, false}
 use Rattle.std.proofs.Math.Decide.{ℕ_discrete}
 use borrow.Author.Tests.{leb-false}
 use Rattle.table.specs.declared.Primary.{Primary}
-use Rattle.table.specs.declared.Copied.{Copied}
-use Rattle.table.specs.declared.Copied.TheVariants.{Same, Renamed}
+use Rattle.table.specs.declared.Operand.{Operand}
+use Rattle.table.specs.declared.Replica.{Replica}
+use Rattle.table.specs.declared.Operand.TheVariants.{Plain, Pointer}
 use Rattle.table.specs.declared.Then.{Then}
-use Rattle.table.specs.declared.Then.TheVariants.{ToWrite, ToStoreCopy, ToFillCopy, ToPut}
+use Rattle.table.specs.declared.Then.TheVariants.{ToWrite}
 use Rattle.table.specs.declared.Place.{Place}
-use Rattle.table.specs.declared.Place.TheVariants.{Idle, New, Asked, FillWrite, FillCopy, StoreWrite, Meet, StoreCopy, Take, Read, Put, Release, Looking, Placing}
+use Rattle.table.specs.declared.Place.TheVariants.{FillCopy, StoreCopy, Put, Placing}
 use Rattle.table.specs.declared.Task.{Task}
 use Rattle.table.specs.declared.Marks.{Marks}
 use Rattle.table.specs.declared.Table.{Table}
 use Rattle.table.specs.declared.Deed.TheVariants.{Goes, Fails}
 use Rattle.machine.specs.Numbers.{refusal}
-use Rattle.machine.specs.Words.{primary, replica, room_of, room_for}
+use Rattle.machine.specs.Words.{slot_at, primary, replica, room_of, room_for}
 use Rattle.machine.specs.Entries.{entry, no_task, task_at, moved_table, entered}
 use Rattle.machine.specs.Tasks.{holding_of}
 use Rattle.machine.specs.Deeds.{Acted, acted}
@@ -34,27 +35,17 @@ use Rattle.machine.proofs.Agree.MidwayRead.{object_in, midway_of}
 use Rattle.machine.proofs.Agree.Twin.{twin}
 
 -- ---- an entry names replicas of placed objects only
-copied_same : (K : ℕ → Type 0) (sh : Shape) (hd : ℕ → Hd) (ra ra' : ℕ → ℕ) (c : Copied) → SoundCopied K sh hd c → ((y : ℕ) → IsPlaced (hd y) → ra y ≡ ra' y)
+copied_same : (K : ℕ → Type 0) (sh : Shape) (hd : ℕ → Hd) (ra ra' : ℕ → ℕ) (c : Operand Replica) → SoundCopied K sh hd c → ((y : ℕ) → IsPlaced (hd y) → ra y ≡ ra' y)
     → at_copied ra c ≡ at_copied ra' c
-copied_same K sh hd ra ra' (Same w) q h = refl
-copied_same K sh hd ra ra' (Renamed r) q h = ap (λ (a : ℕ). Renamed (replica a)) (h r.0 q.1)
+copied_same K sh hd ra ra' (Plain w) q h = refl
+copied_same K sh hd ra ra' (Pointer r) q h = ap (λ (a : ℕ). Pointer (replica a)) (h r.0 q.1)
 
 pub place_same : (K : ℕ → Type 0) (s : ℕ) (sh : Shape) (hd : ℕ → Hd) (prim rep : ℕ → ℕ → ℕ) (has : ℕ → ℕ → Bool) (Mt : ℕ → ℕ → Type 0) (on : Bool) (t : ℕ) (e : Task)
     (pl : Place) (pa ra ra' : ℕ → ℕ) → PlaceOk K s sh hd prim rep has Mt on t e pl → ((y : ℕ) → IsPlaced (hd y) → ra y ≡ ra' y) → at_place pa ra pl ≡ at_place pa ra' pl
-place_same K s sh hd prim rep has Mt on t e Idle pa ra ra' q h = refl
-place_same K s sh hd prim rep has Mt on t e (New r len m) pa ra ra' q h = refl
-place_same K s sh hd prim rep has Mt on t e (Asked r len m) pa ra ra' q h = refl
-place_same K s sh hd prim rep has Mt on t e (FillWrite v) pa ra ra' q h = refl
 place_same K s sh hd prim rep has Mt on t e (FillCopy c) pa ra ra' q h = ap FillCopy (copied_same K sh hd ra ra' c q.2 h)
-place_same K s sh hd prim rep has Mt on t e (StoreWrite v) pa ra ra' q h = refl
-place_same K s sh hd prim rep has Mt on t e (Meet v) pa ra ra' q h = refl
 place_same K s sh hd prim rep has Mt on t e (StoreCopy c) pa ra ra' q h = ap StoreCopy (copied_same K sh hd ra ra' c q.2 h)
-place_same K s sh hd prim rep has Mt on t e (Take n) pa ra ra' q h = refl
-place_same K s sh hd prim rep has Mt on t e (Read n x i) pa ra ra' q h = refl
-place_same K s sh hd prim rep has Mt on t e (Put n x i c) pa ra ra' q h = ap (Put n (primary (pa x.0)) i) (copied_same K sh hd ra ra' c q.5 h)
-place_same K s sh hd prim rep has Mt on t e (Release n x i) pa ra ra' q h = refl
-place_same K s sh hd prim rep has Mt on t e (Looking x th) pa ra ra' q h = refl
-place_same K s sh hd prim rep has Mt on t e (Placing x th) pa ra ra' q h = refl
+place_same K s sh hd prim rep has Mt on t e (Put n job c) pa ra ra' q h = ap (Put n (slot_at (primary (pa job.object.0)) job.index)) (copied_same K sh hd ra ra' c q.5 h)
+place_same K s sh hd prim rep has Mt on t e _ pa ra ra' q h = refl
 
 pub task_same : {K : ℕ → Type 0} {p s : ℕ} {o : State} (pa ra ra' : ℕ → ℕ) → Inv K p s o → ((y : ℕ) → IsPlaced (o.hd y) → ra y ≡ ra' y) → (i : ℕ)
     → at_task pa ra (o.tasks i) ≡ at_task pa ra' (o.tasks i)
@@ -69,9 +60,7 @@ placed_entry e th x = goes e (go_on th (replica x))
 -- what follows a look
 pub at_on : (pa ra : ℕ → ℕ) (th : Then) (x : ℕ) → go_on (at_then pa th) (replica (ra x)) ≡ at_place pa ra (go_on th (replica x))
 at_on pa ra (ToWrite v) x = refl
-at_on pa ra ToStoreCopy x = refl
-at_on pa ra ToFillCopy x = refl
-at_on pa ra (ToPut n y i) x = refl
+at_on pa ra _ x = refl
 
 -- the entry as the machine makes it
 pub placed_entry_lem : (pa ra ra' : ℕ → ℕ) (e f : Task) (th : Then) (x : ℕ) → f ≡ at_task pa ra e
@@ -82,9 +71,7 @@ placed_entry_lem pa ra ra' e f th x q = rw (q, at_on pa ra' th x)
 same_jobs : (q : Primary) (th : Then) (x : ℕ) → jobs_in (holding_of (Placing q th)) ≡ jobs_in (holding_of (go_on th (replica x)))
 unfolding holding_of
 same_jobs q (ToWrite v) x = refl
-same_jobs q ToStoreCopy x = refl
-same_jobs q ToFillCopy x = refl
-same_jobs q (ToPut n y i) x = refl
+same_jobs q _ x = refl
 
 module _ {K : ℕ → Type 0} {pa ra : ℕ → ℕ} {o : State} {t : Table} {ws : List ℕ} (v : Inv K t.limits.p t.limits.s o) (k : Agree K pa ra o t ws) (i : ℕ)
     (q : Primary) (th : Then) (ip : i < t.limits.p) (e : (o.tasks i).place ≡ Placing q th) where

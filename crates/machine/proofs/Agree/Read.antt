@@ -4,11 +4,10 @@ use Rattle.std.proofs.Common.{ap, ◌∙◌, arith}
 use Rattle.std.proofs.Math.ListN.{length}
 use borrow.Author.Tests.{le-ltb, lt-ltb, le-leb, lt-leb}
 use Rattle.table.specs.declared.Table.{Table}
-use Rattle.table.specs.declared.Object.TheVariants.{Whole}
 use Rattle.table.specs.declared.Look.TheVariants.{Forwarded}
 use Rattle.table.specs.declared.Copying.{Copying}
 use Rattle.table.specs.declared.Copying.TheVariants.{Count, Locked, Neither}
-use Rattle.machine.specs.Words.{primary, replica, descriptor, length_in, object_of, header_of, look_of, copying_of}
+use Rattle.machine.specs.Words.{primary, replica, descriptor, length_in, object_of, header_of, look_of, copying_of, described}
 use Rattle.machine.proofs.Objects.State.{Hd, white, claimed, count, locked, State, IsPlaced, left, Late}
 use Rattle.machine.proofs.Objects.Inv.{Colours, Inv}
 use Rattle.machine.proofs.Agree.Encode.{header_word, copy_word, slot_word}
@@ -95,7 +94,7 @@ module _ {K : ℕ → Type 0} {pa ra : ℕ → ℕ} {o : State} {t : Table} {ws 
 
 -- ---- the checks, of objects
 module _ {K : ℕ → Type 0} {p : ℕ} {pa ra : ℕ → ℕ} {o : State} {t : Table} {ws : List ℕ} (v : Inv K p t.limits.s o) (k : Agree K pa ra o t ws) where
-  pub object_of_lem : (x : ℕ) → Held K o.shape x → object_of ws t.limits.s (primary (pa x)) ≡ Whole (o.shape.len x) (o.shape.ptr x)
+  pub object_of_lem : (x : ℕ) → Held K o.shape x → object_of ws t.limits.s (primary (pa x)) ≡ described (o.shape.len x) (o.shape.ptr x)
   unfolding object_of
   object_of_lem x h =
       let i : (4 ≤ pa x) × (pa x + o.shape.len x ≤ length ws) = k.lay.inside x h in

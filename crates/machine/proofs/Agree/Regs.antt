@@ -10,7 +10,8 @@ use Rattle.machine.proofs.Objects.Inv.{Inv}
 use Rattle.machine.proofs.Objects.Ops.{moves, reroots}
 use Rattle.machine.proofs.Agree.Encode.{at_primary}
 use Rattle.machine.proofs.Agree.Agree.{Agree}
-use Rattle.machine.proofs.Agree.Enter.{map_set, entered_register, moves_agree}
+use Rattle.machine.proofs.Agree.Enter.{entered_register, moves_agree}
+use Rattle.std.proofs.lemmas.List.{map-set}
 
 module _ {K : ℕ → Type 0} {pa ra : ℕ → ℕ} {o : State} {t : Table} {ws : List ℕ} (v : Inv K t.limits.p t.limits.s o) (k : Agree K pa ra o t ws) where
   pub register_agree : (i : ℕ) → i < t.limits.p → (r x : ℕ)
@@ -36,7 +37,7 @@ module _ {K : ℕ → Type 0} {pa ra : ℕ → ℕ} {o : State} {t : Table} {ws 
     };
     lay = k.lay;
     mem = k.mem;
-    roots = rw (map_set (at_primary pa) o.roots r (primary x)) (ap (λ l. set l r (primary (pa x))) k.roots);
+    roots = rw (map-set (at_primary pa) o.roots r (primary x)) (ap (λ l. set l r (primary (pa x))) k.roots);
     eight = k.eight;
     tasks = k.tasks;
   }

@@ -1,5 +1,5 @@
 -- The searches over the table's tasks, in terms of the objects: a wait finds its task, nothing grey, all idle, no slot in store.
-use Rattle.std.specs.Prelude.{ℕ, zero, suc, ◌≤◌, ◌<◌, ◌≡◌, ◌≢◌, List, [], ◌∷◌, Bool, length, get_or, take, eqb}
+use Rattle.std.specs.Prelude.{ℕ, zero, suc, ◌≤◌, ◌<◌, ◌≡◌, ◌≢◌, List, [], Bool, length, get_or, take, eqb, Some, None}
 use Rattle.std.proofs.Math.Path.{refl, sym}
 use Rattle.std.proofs.Common.{ap, ◌∙◌, arith}
 use Rattle.std.proofs.Math.Bool.{true, false}
@@ -13,11 +13,10 @@ use Rattle.table.specs.declared.Table.{Table}
 use Rattle.table.specs.declared.Holding.{Holding}
 use Rattle.table.specs.declared.Holding.TheVariants.{Rests}
 use Rattle.table.specs.declared.Sought.{Sought}
-use Rattle.table.specs.declared.Sought.TheVariants.{Claimer, Holder, Worker, Blocker, Claiming, Asking, Busy}
-use Rattle.table.specs.declared.Found.TheVariants.{At, Nobody}
+use Rattle.table.specs.declared.Sought.TheVariants.{Claimer, Holder, Worker, Blocker, Claiming, Busy}
 use Rattle.table.specs.declared.Answer.TheVariants.{Wait}
 use Rattle.machine.specs.Basics.{pick}
-use Rattle.machine.specs.Words.{primary}
+use Rattle.machine.specs.Words.{primary, slot_at}
 use Rattle.machine.specs.Entries.{no_task, task_at, out}
 use Rattle.machine.specs.Tasks.{holding_of, idle_of, claims_of, works_of, sought_of, lowest_of, sought_task, seek_of, some, stores_at, store_there, slot_taken, grey_of, all_idle}
 use Rattle.machine.specs.Step.{wait_of}
@@ -30,14 +29,15 @@ use Rattle.machine.specs.Agree.Agree.{end}
 use Rattle.machine.proofs.Agree.Agree.{Held, Agree}
 use Rattle.machine.proofs.Agree.Holdings.{at_holding, holding_at, claim_is_lem, job_is_lem, claims, claim_works, job_works, idle_only, restful, store_there_lem}
 use Rattle.machine.proofs.Agree.Lowest.{found_at, lowest_found, lowest_one, lowest_none}
+use Rattle.std.proofs.lemmas.List.{nil_from_length}
 
 -- ---- the tasks sought
-pub found_is : (ts : List Task) (p : ℕ) (w : Sought) (q : ℕ) → seek_of ts p w ≡ At q → (q < p) × (sought_task w q (get_or ts q no_task) ≡ true)
+pub found_is : (ts : List Task) (p : ℕ) (w : Sought) (q : ℕ) → seek_of ts p w ≡ Some q → (q < p) × (sought_task w q (get_or ts q no_task) ≡ true)
 unfolding seek_of
 found_is ts p w q e = lowest_found (sought_task w) ts p q e
 
 pub found_some : (ts : List Task) (p : ℕ) (w : Sought) (i : ℕ) → i < p → p ≤ length ts → sought_task w i (get_or ts i no_task) ≡ true
-    → (q : ℕ) × (seek_of ts p w ≡ At q)
+    → (q : ℕ) × (seek_of ts p w ≡ Some q)
 unfolding seek_of
 found_some ts p w i l m e = found_at (lowest_of (sought_task w) (take p ts) 0) (lowest_one (sought_task w) ts p i l (omega arith) e)
 
@@ -48,13 +48,9 @@ either false = refl
 
 sought_rests : (w : Sought) (i : ℕ) → sought_of w i Rests ≡ false
 unfolding sought_of
-sought_rests (Claimer q) i = refl
-sought_rests (Holder y j) i = refl
 sought_rests (Worker me) i = either (eqb i me)
 sought_rests (Blocker me) i = either (eqb i me)
-sought_rests Claiming i = refl
-sought_rests Asking i = refl
-sought_rests Busy i = refl
+sought_rests _ i = refl
 
 rests : (w : Sought) (i : ℕ) → sought_task w i no_task ≡ false
 unfolding holding_of
@@ -77,10 +73,6 @@ sum_pos (suc n) f l = go (dec_lt 0 (f n)) (sum_pos n f)
     go : Dec (0 < f n) → (0 < sum_to n f → (u : ℕ) × (u < n) × (0 < f u)) → (u : ℕ) × (u < suc n) × (0 < f u)
     go (yes a) ih = (n, omega arith, a)
     go (no a) ih = let m = ih (omega (arith, a)) in (m.0, omega (arith, m.1), m.2)
-
-no_length : (l : List ℕ) → length l ≡ 0 → l ≡ []
-no_length [] e = refl
-no_length (x ∷ l) e = absurd (omega arith)
 
 -- ---- the table's searches
 module _ {K : ℕ → Type 0} {pa ra : ℕ → ℕ} {o : State} {t : Table} {ws : List ℕ} (k : Agree K pa ra o t ws) (v : Inv K t.limits.p t.limits.s o) where
@@ -105,10 +97,10 @@ module _ {K : ℕ → Type 0} {pa ra : ℕ → ℕ} {o : State} {t : Table} {ws 
   claimer_found x u e =
       let m = v.owners.claimer x u e in waits (Claimer (primary (pa x))) u m.0 (claim_is_lem pa (holding_of (o.tasks u).place) x m.4)
 
-  pub holder_found : (x i u : ℕ) → o.hd x ≡ locked i u → (q : ℕ) × (wait_of t (Holder (primary (pa x)) i) ≡ out t (Wait q))
+  pub holder_found : (x i u : ℕ) → o.hd x ≡ locked i u → (q : ℕ) × (wait_of t (Holder (slot_at (primary (pa x)) i)) ≡ out t (Wait q))
   unfolding sought_of
   holder_found x i u e =
-      let m = v.owners.locker x i u e in waits (Holder (primary (pa x)) i) u m.0 (job_is_lem pa (holding_of (o.tasks u).place) x i m.4)
+      let m = v.owners.locker x i u e in waits (Holder (slot_at (primary (pa x)) i)) u m.0 (job_is_lem pa (holding_of (o.tasks u).place) x i m.4)
 
   -- a Take that finds the stack empty, and something grey: another task has a job or a claim
   pub worker_found : (i n : ℕ) → (o.tasks i).place ≡ Take n → t.marks.top ≡ end t → grey_of t.marks (end t) t.tasks t.limits.p ≡ true
@@ -146,7 +138,7 @@ module _ {K : ℕ → Type 0} {pa ra : ℕ → ℕ} {o : State} {t : Table} {ws 
       go true b g h e = off_on (sym e)
       go false true g h e = off_on (sym e)
       go false false g h e = (
-        no_length o.stack (omega (arith, k.marked.stack, ltb-false t.marks.top (end t) g)),
+        nil_from_length o.stack (omega (arith, k.marked.stack, ltb-false t.marks.top (end t) g)),
         λ u l. omega (arith, sum_to_part t.limits.p u (λ i. jobs_in (holding_of (o.tasks i).place)) l, k.marked.jobs, ltb-false 0 t.marks.j h),
         λ u x l c. off_on (sym (sym (sought_at Claiming u l) ∙ none t.tasks t.limits.p Claiming e u l) ∙ claims pa (holding_of (o.tasks u).place) x c),
       )
@@ -161,7 +153,7 @@ module _ {K : ℕ → Type 0} {pa ra : ℕ → ℕ} {o : State} {t : Table} {ws 
           idle_only pa (o.tasks i).place (not-false (idle_of (held i)) (sym (sought_at Busy i l) ∙ w))
       go (no l) = rw (v.owners.beyond i (omega (arith, l))) refl
 
-  pub no_blocker : (i : ℕ) → seek_of t.tasks t.limits.p (Blocker i) ≡ Nobody → (u : ℕ) → u ≢ i → Restful (o.tasks u).place
+  pub no_blocker : (i : ℕ) → seek_of t.tasks t.limits.p (Blocker i) ≡ None → (u : ℕ) → u ≢ i → Restful (o.tasks u).place
   unfolding sought_of
   no_blocker i e u f = go (dec_lt u t.limits.p)
     where

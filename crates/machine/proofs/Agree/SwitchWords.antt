@@ -1,21 +1,19 @@
 -- The switch-over: every pointer of the table its replica's, the words as they are; they are the primaries now.
-use Rattle.std.specs.Prelude.{ℕ, zero, suc, ◌≤◌, ◌<◌, ◌≡◌, ◌⊎◌, List, [], map, get_or, take, eqb}
+use Rattle.std.specs.Prelude.{ℕ, zero, suc, ◌≤◌, ◌<◌, ◌≡◌, ◌⊎◌, List, [], map, get_or, take, eqb, Option, Some, None}
 use Rattle.std.proofs.Math.Path.{refl, ap}
 use Rattle.std.proofs.Common.{subst, ◌∙◌, inl, inr, arith, ne_eqb}
 use Rattle.std.proofs.Math.Bool.{true}
 use Rattle.std.proofs.Math.Decide.{ℕ_discrete, dec_lt}
 use Rattle.std.proofs.Math.ListN.{length, get_or-map}
 use Rattle.table.specs.declared.Primary.{Primary}
-use Rattle.table.specs.declared.Pending.{Pending}
-use Rattle.table.specs.declared.Pending.TheVariants.{Nothing, Making}
-use Rattle.table.specs.declared.Storing.TheVariants.{Nowhere}
+use Rattle.table.specs.declared.Making.{Making}
 use Rattle.table.specs.declared.Place.{Place}
 use Rattle.table.specs.declared.Place.TheVariants.{Idle}
 use Rattle.table.specs.declared.Table.{Table}
 use Rattle.table.specs.declared.Answer.{Answer}
 use Rattle.machine.specs.Basics.{pick, all_of, first_of}
 use Rattle.machine.specs.Words.{primary, look_of}
-use Rattle.machine.specs.Entries.{no_task, nil, out}
+use Rattle.machine.specs.Entries.{no_task, nil, out, pending_with}
 use Rattle.machine.specs.Switch.{replica_in, new_name, is_forwarded, has_replica, new_pending, pending_has_replica, new_entry, entry_has_replicas, switched, switch_of}
 use Rattle.machine.proofs.Objects.Base.{off_on, upd, upd_other}
 use Rattle.machine.proofs.Objects.State.{Hd, white, count, Shape, State, IsPlaced, left, root, Late, Meeting}
@@ -71,14 +69,14 @@ module _ {K : ℕ → Type 0} {pa ra : ℕ → ℕ} {o : State} {t : Table} {ws 
   row_new l e h = first_map (new_name ws s) (at_primary pa) (at_primary ra) nil 8 l (omega (arith, e)) (λ r a. let q = h r in (named (root l r) q.0 q.1).1)
 
   -- a pending object
-  pending_has : (q : Pending) → PendingOk K sh o.hd o.on q
+  pending_has : (q : Option Making) → PendingOk K sh o.hd o.on q
       → (pending_has_replica ws s (at_pending pa q) ≡ true) × (new_pending ws s (at_pending pa q) ≡ at_pending ra q)
   unfolding pending_has_replica new_pending
-  pending_has Nothing w = (refl, refl)
-  pending_has (Making x r len f) w = let n = named x.0 w.1 w.2 in (n.0, ap (λ (z : Primary). Making z r len f) n.1)
+  pending_has None w = (refl, refl)
+  pending_has (Some d) w = let n = named d.at.0 w.1 w.2 in (n.0, ap (λ (z : Primary). pending_with z d.register d.len d.filled) n.1)
 
   -- an idle entry
-  idle_ok : (i : ℕ) → (o.tasks i).storing ≡ Nowhere
+  idle_ok : (i : ℕ) → (o.tasks i).storing ≡ None
   idle_ok i =
       (subst (λ (z : Place). PlaceOk K s sh o.hd o.prim o.rep o.has (Meeting o.tasks) o.on i (o.tasks i) z) (idle i) (v.places i)).1
 

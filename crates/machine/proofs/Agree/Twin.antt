@@ -1,28 +1,20 @@
 -- A replica claimed for an unplaced object: the words of `place_of`, in the space that copies go to.
-use Rattle.std.specs.Prelude.{ℕ, zero, suc, ◌+◌, ◌-◌, ◌≤◌, ◌<◌, ◌≡◌, refl, ◌≢◌, ◌⊎◌, List, [], ◌∷◌, Bool, true, false, length, get_or, set, eqb, ltb}
-use Rattle.std.proofs.Common.{ap, sym, ◌∙◌, inl, inr, arith, length-set, ltb-true}
+use Rattle.std.specs.Prelude.{ℕ, zero, suc, ◌+◌, ◌-◌, ◌≤◌, ◌<◌, ◌≡◌, refl, ◌≢◌, ◌⊎◌, List, [], ◌∷◌, Bool, true, false, length, get_or, set, eqb, Some}
+use Rattle.std.proofs.Common.{ap, sym, ◌∙◌, inl, inr, arith, length-set}
 use Rattle.std.proofs.Math.Decide.{ℕ_discrete}
 use Rattle.table.specs.declared.Marks.{Marks}
-use Rattle.table.specs.declared.Placed.TheVariants.{Twin}
 use Rattle.machine.specs.Basics.{pick}
 use Rattle.machine.specs.Words.{primary, replica, descriptor, room_for}
 use Rattle.machine.specs.Look.{placed_in, forwarded_to, place_of}
-use Rattle.machine.proofs.Objects.Base.{upd, upd_same, upd_other, sum_to, sum_to_at, off_on}
+use Rattle.machine.proofs.Objects.Base.{upd, upd_same, upd_other, sum_to, sum_to_at, off_on, at_one}
 use Rattle.machine.proofs.Objects.State.{Hd, white, claimed, count, locked, Shape, IsPlaced, IsUnplaced, owes}
 use Rattle.machine.proofs.Objects.Ops.{push}
-use Rattle.machine.proofs.Agree.Encode.{copy_word, slot_word}
+use Rattle.machine.proofs.Agree.Encode.{copy_word}
 use Rattle.machine.proofs.Agree.Mem.{Loc, P, R, S, InLocs, Holds, Apart, write}
 use Rattle.machine.proofs.Agree.Agree.{Held, addr, Ok, content, Beside, Lay}
 use Rattle.machine.proofs.Agree.Apart.{apart}
 use Rattle.machine.proofs.Agree.Midway.{Midway, twin_need, twin_marks, twin_words, place_of_fits, room_is, twin_length}
-
--- a slot's word names the address of what it points to, and no other
-slot_word_lem : (f g : ℕ → ℕ) (m j v : ℕ) → (j < m → f v ≡ g v) → slot_word f m j v ≡ slot_word g m j v
-slot_word_lem f g m j v h = go (ltb j m) refl
-  where
-    go : (b : Bool) → ltb j m ≡ b → pick b (f v) v ≡ pick b (g v) v
-    go true e = h (ltb-true j m e)
-    go false e = refl
+use Rattle.machine.proofs.Agree.Older.{slot_word_same}
 
 module _ (K : ℕ → Type 0) (pa ra : ℕ → ℕ) (sh : Shape) (hd : ℕ → Hd) (prim rep : ℕ → ℕ → ℕ) (has : ℕ → ℕ → Bool) (stack : List ℕ)
     (base end : ℕ) (m : Marks) (ws : List ℕ) (x c : ℕ) (k : Midway K pa ra sh hd prim rep has stack base end m ws)
@@ -71,14 +63,6 @@ module _ (K : ℕ → Type 0) (pa ra : ℕ → ℕ) (sh : Shape) (hd : ℕ → H
   not_x : (y : ℕ) → IsPlaced (hd y) → y ≢ x
   not_x y p e = not_both (hd x) un (rw e at p)
 
-  -- what holds of x and of every other
-  at_x : (Q : ℕ → Type 0) → Q x → ((y : ℕ) → y ≢ x → Q y) → (y : ℕ) → Q y
-  at_x Q a b y = on (ℕ_discrete y x)
-    where
-      on : Dec (y ≡ x) → Q y
-      on (yes q) = rw q a
-      on (no q) = b y q
-
   abbrev a' : ℕ
   a' = m.a + (sh.len x + 2)
 
@@ -89,7 +73,7 @@ module _ (K : ℕ → Type 0) (pa ra : ℕ → ℕ) (sh : Shape) (hd : ℕ → H
       nilr = ro 0 (λ e. omega (arith, held.0)) ∙ k.lay.nilr;
       inside = k.lay.inside;
       where_p = λ y h. wp y (k.lay.where_p y h);
-      where_r = at_x (λ y. Held K sh y → IsPlaced (hd' y) → (base + 2 ≤ ra' y) × (ra' y + sh.len y ≤ a')) (λ h p. omega (arith, rx, k.based))
+      where_r = at_one x (λ y. Held K sh y → IsPlaced (hd' y) → (base + 2 ≤ ra' y) × (ra' y + sh.len y ≤ a')) (λ h p. omega (arith, rx, k.based))
           (λ y q h p. omega (arith, ro y q, k.lay.where_r y h (rw (ho y q) at p)));
       apart_p = k.lay.apart_p;
       apart_r = λ y z h g p q d. sep y z (ℕ_discrete y x) (ℕ_discrete z x) h g p q d;
@@ -175,7 +159,7 @@ module _ (K : ℕ → Type 0) (pa ra : ℕ → ℕ) (sh : Shape) (hd : ℕ → H
           let p : IsPlaced (hd y) = rw (ho y n) at u.1 in
           rw (ro y n)
           (k.mem (R y (suc (suc j))) (u.0, p, (u.2.0, w.1)) (λ i. i)
-          ∙ slot_word_lem ra ra' (sh.ptr y) j (rep y j) (λ l. sym (ro (rep y j) (not_x (rep y j) (target y j p w.1 l)))))
+          ∙ slot_word_same ra ra' (sh.ptr y) j (rep y j) (λ l. sym (ro (rep y j) (not_x (rep y j) (target y j p w.1 l)))))
       keep (S o) u q = keep_s b room o u.0 u.1 (λ i. q (inr (inr (inr i))))
 
       low : a' ≤ top' b
@@ -261,7 +245,7 @@ pub twin : {K : ℕ → Type 0} {pa ra : ℕ → ℕ} {sh : Shape} {hd : ℕ →
     {base end : ℕ} {m : Marks} {ws : List ℕ} (x c : ℕ) → Midway K pa ra sh hd prim rep has stack base end m ws → Held K sh x → IsUnplaced (hd x) → c ≤ sh.len x
     → ((y : ℕ) → sh.wrote y ≤ sh.len y) → ((y j : ℕ) → IsPlaced (hd y) → has y j ≡ true → j < sh.ptr y → IsPlaced (hd (rep y j)))
     → room_for true m end (twin_need (sh.len x) c) ≡ true
-    → (place_of m end ws (primary (pa x)) (sh.len x) c ≡ placed_in (Twin (twin_marks m (sh.len x) c) (replica (m.a + 2))) (twin_words m ws (pa x) c))
+    → (place_of m end ws (primary (pa x)) (sh.len x) c ≡ placed_in (Some (twin_marks m (sh.len x) c, replica (m.a + 2))) (twin_words m ws (pa x) c))
     × Midway K pa (upd ra x (m.a + 2)) sh (upd hd x (count c)) prim rep (upd has x (λ j. false)) (push c x stack) base end
     (twin_marks m (sh.len x) c) (twin_words m ws (pa x) c)
 twin {pa = pa} {sh = sh} {end = end} {m = m} {ws = ws} x c k held un cl wr target r =

@@ -1,10 +1,8 @@
 -- The switch-over is not due while something is grey or a task is busy: what registers and begins make of that.
-use Rattle.std.specs.Prelude.{ℕ, zero, suc, ◌≡◌, refl, List, [], ◌∷◌, Bool, true, false, get_or, set, take, ltb}
+use Rattle.std.specs.Prelude.{ℕ, zero, suc, ◌≡◌, refl, List, [], ◌∷◌, Bool, true, false, get_or, set, take, ltb, Option, Some, None}
 use Rattle.std.proofs.Common.{ap, sym, ◌∙◌, arith, le-ltb, ltb-false}
 use Rattle.table.specs.declared.Sought.{Sought}
 use Rattle.table.specs.declared.Sought.TheVariants.{Claiming, Busy}
-use Rattle.table.specs.declared.Found.{Found}
-use Rattle.table.specs.declared.Found.TheVariants.{At, Nobody}
 use Rattle.table.specs.declared.Marks.{Marks}
 use Rattle.table.specs.declared.Primary.{Primary}
 use Rattle.table.specs.declared.Place.{Place}
@@ -17,7 +15,7 @@ use Rattle.machine.specs.Tasks.{holding_of, claims_of, sought_of, sought_task, l
 use Rattle.machine.specs.Switch.{switch_due}
 use Rattle.machine.proofs.Objects.Base.{off_on}
 use Rattle.table.specs.declared.Holding.{Holding}
-use Rattle.table.specs.declared.Holding.TheVariants.{Rests, Asks, Free, Job, Claim, Both}
+use Rattle.table.specs.declared.Holding.TheVariants.{Claim, Both}
 use Rattle.machine.proofs.Objects.State.{State, ClaimIn, HasClaim}
 use Rattle.machine.proofs.Agree.Holdings.{at_holding, holding_at}
 use Rattle.machine.proofs.Agree.Search.{found_is}
@@ -31,8 +29,8 @@ lowest_same : (test : ℕ → Task → Bool) (p : ℕ) (ts : List Task) (i n : �
 unfolding lowest_of
 lowest_same test zero ts i n e f = refl
 lowest_same test (suc p) [] i n e f = refl
-lowest_same test (suc p) (x ∷ ts) zero n e f = ap (λ (b : Bool). pick b (At n) (lowest_of test (take p ts) (suc n))) (f n)
-lowest_same test (suc p) (x ∷ ts) (suc i) n e f = ap (λ (z : Found). pick (test n x) (At n) z) (lowest_same test p ts i (suc n) e f)
+lowest_same test (suc p) (x ∷ ts) zero n e f = ap (λ (b : Bool). pick b (Some n) (lowest_of test (take p ts) (suc n))) (f n)
+lowest_same test (suc p) (x ∷ ts) (suc i) n e f = ap (λ (z : Option ℕ). pick (test n x) (Some n) z) (lowest_same test p ts i (suc n) e f)
 
 pub seek_same : (ts : List Task) (p i : ℕ) (e : Task) (w : Sought) → e.place ≡ (get_or ts i no_task).place → seek_of (set ts i e) p w ≡ seek_of ts p w
 unfolding seek_of
@@ -68,12 +66,9 @@ grey_jobs m fin ts p e = on (ltb m.top fin) (ltb 0 m.j) refl e
 
 -- a claim in the table is one of an object
 claim_back : (pa : ℕ → ℕ) (h : Holding) → claims_of (at_holding pa h) ≡ true → (x : ℕ) × ClaimIn h x
-claim_back pa Rests e = off_on e
-claim_back pa Asks e = off_on e
-claim_back pa Free e = off_on e
-claim_back pa (Job y j) e = off_on e
 claim_back pa (Claim p) e = (p.0, refl)
-claim_back pa (Both p y j) e = (p.0, refl)
+claim_back pa (Both p job) e = (p.0, refl)
+claim_back pa _ e = off_on e
 
 -- an empty stack, no job and no claim: nothing is grey
 pub grey_none : {K : ℕ → Type 0} {pa ra : ℕ → ℕ} {o : State} {t : Table} {ws : List ℕ} → Agree K pa ra o t ws → o.stack ≡ [] → t.marks.j ≡ 0
@@ -82,9 +77,9 @@ unfolding grey_of sought_of
 grey_none {pa = pa} {ra = ra} {o = o} {t = t} k es ej free =
     rw (le-ltb t.marks.top (end t) (omega (arith, stack_empty k es)), le-ltb 0 t.marks.j (omega arith)) (on (seek_of t.tasks t.limits.p Claiming) refl)
   where
-    on : (f : Found) → seek_of t.tasks t.limits.p Claiming ≡ f → is_found f ≡ false
-    on Nobody e = refl
-    on (At q) e =
+    on : (f : Option ℕ) → seek_of t.tasks t.limits.p Claiming ≡ f → is_found f ≡ false
+    on None e = refl
+    on (Some q) e =
         let f = found_is t.tasks t.limits.p Claiming q e in
         let p = k.tasks q (omega (arith, f.0, k.sized.limited.p_high)) in
         let c : claims_of (holding_of (task_at t q).place) ≡ true = f.1 in

@@ -4,9 +4,9 @@ use Rattle.std.proofs.Common.{ap, sym, subst, ◌∙◌, inl, inr, arith, eq-eqb
 use Rattle.std.proofs.Math.Decide.{ℕ_discrete}
 use Rattle.table.specs.declared.Limits.{Limits}
 use Rattle.table.specs.declared.Place.{Place}
-use Rattle.table.specs.declared.Place.TheVariants.{Idle, New, Asked, FillWrite, FillCopy, StoreWrite, Meet, StoreCopy, Take, Read, Put, Release, Looking, Placing}
+use Rattle.table.specs.declared.Place.TheVariants.{New, StoreWrite}
 use Rattle.table.specs.declared.Answer.{Answer}
-use Rattle.table.specs.declared.Answer.TheVariants.{Accepted, Done, Value, Moved, Wait, Report, No}
+use Rattle.table.specs.declared.Answer.TheVariants.{Done, Moved, No}
 use Rattle.machine.specs.Numbers.{effect_of}
 use Rattle.machine.specs.Basics.{pick}
 use Rattle.machine.specs.Entries.{task_at, Ends}
@@ -43,19 +43,8 @@ writes_waits i c e b z = on (step_of i c e)
 -- a step, or another call that is told with no action
 told_or : (s : Store) (c : Call) (e : Ends) → ((c ≡ Call.Step (task_of c)) × (follows s c e (then c e) ≡ happen_all s (task_of c) (kinds_of c e)))
     ⊎ (NotStep c × (follows s c e (then c e) ≡ told s c (then c e).out.answer []))
-told_or s (Call.New task r len m) e = inr (tt, refl)
-told_or s (Call.Fill task w) e = inr (tt, refl)
-told_or s (Call.FillPointer task r) e = inr (tt, refl)
-told_or s (Call.Load task to from slot) e = inr (tt, refl)
-told_or s (Call.Store task o slot w) e = inr (tt, refl)
-told_or s (Call.StorePointer task o slot r) e = inr (tt, refl)
-told_or s (Call.Move task to from) e = inr (tt, refl)
-told_or s (Call.Clear task r) e = inr (tt, refl)
-told_or s (Call.Same task a b) e = inr (tt, refl)
-told_or s (Call.Put task root r) e = inr (tt, refl)
-told_or s (Call.Get task r root) e = inr (tt, refl)
 told_or s (Call.Step task) e = inl (refl, told_step s task (then (Call.Step task) e).out.answer _)
-told_or s Call.Report e = inr (tt, refl)
+told_or s _ e = inr (tt, refl)
 
 -- ---- one call
 module _ {l : Limits} {w : Store} {hy : History} (e : Ends) (g : Good l w hy e.out.table e.words) (i x j v : ℕ)
@@ -141,49 +130,23 @@ abbrev WritesFirst : List Kind → Type 0
 WritesFirst ks = (ks ≡ Written ∷ []) ⊎ (ks ≡ Written ∷ Ended ∷ [])
 
 done_first : (before : Place) → writes (done_kinds before) ≡ 1 → WritesFirst (done_kinds before)
-done_first Idle h = absurd (omega (arith, h))
-done_first (New r len m) h = absurd (omega (arith, h))
-done_first (Asked r len m) h = absurd (omega (arith, h))
-done_first (FillWrite v) h = absurd (omega (arith, h))
-done_first (FillCopy c) h = absurd (omega (arith, h))
 done_first (StoreWrite v) h = inr refl
-done_first (Meet v) h = absurd (omega (arith, h))
-done_first (StoreCopy c) h = absurd (omega (arith, h))
-done_first (Take n) h = absurd (omega (arith, h))
-done_first (Read n x i) h = absurd (omega (arith, h))
-done_first (Put n x i c) h = absurd (omega (arith, h))
-done_first (Release n x i) h = absurd (omega (arith, h))
-done_first (Looking p next) h = absurd (omega (arith, h))
-done_first (Placing p next) h = absurd (omega (arith, h))
+done_first _ h = absurd (omega (arith, h))
 
 moved_first : (before after : Place) → writes (moved_kinds before after) ≡ 1 → WritesFirst (moved_kinds before after)
-moved_first Idle after h = absurd (omega (arith, h))
-moved_first (New r len m) after h = on (pays after) h
+moved_first (New want) after h = on (pays after) h
   where
     on : (b : Bool) → writes (pick b (Made ∷ []) []) ≡ 1 → WritesFirst (pick b (Made ∷ []) [])
     on true q = absurd (omega (arith, q))
     on false q = absurd (omega (arith, q))
-moved_first (Asked r len m) after h = absurd (omega (arith, h))
-moved_first (FillWrite v) after h = absurd (omega (arith, h))
-moved_first (FillCopy c) after h = absurd (omega (arith, h))
 moved_first (StoreWrite v) after h = inl refl
-moved_first (Meet v) after h = absurd (omega (arith, h))
-moved_first (StoreCopy c) after h = absurd (omega (arith, h))
-moved_first (Take n) after h = absurd (omega (arith, h))
-moved_first (Read n x i) after h = absurd (omega (arith, h))
-moved_first (Put n x i c) after h = absurd (omega (arith, h))
-moved_first (Release n x i) after h = absurd (omega (arith, h))
-moved_first (Looking p next) after h = absurd (omega (arith, h))
-moved_first (Placing p next) after h = absurd (omega (arith, h))
+moved_first _ after h = absurd (omega (arith, h))
 
 step_first : (x : Answer) (before after : Place) → writes (step_kinds x before after) ≡ 1 → WritesFirst (step_kinds x before after)
-step_first Accepted before after h = absurd (omega (arith, h))
 step_first Done before after h = done_first before h
-step_first (Value v) before after h = absurd (omega (arith, h))
 step_first Moved before after h = moved_first before after h
-step_first (Wait q) before after h = absurd (omega (arith, h))
-step_first (Report on live copies) before after h = absurd (omega (arith, h))
 step_first (No x) before after h = absurd (omega (arith, refused_writes (effect_of x), h))
+step_first _ before after h = absurd (omega (arith, h))
 
 happens_first : (ks : List Kind) (s : Store) (i x j v : ℕ) → WritesFirst ks → j < length (thing_at s x).slots → (owner_at s i).doing ≡ storing x j v
     → get_or (thing_at (happen_all s i ks) x).slots j 0 ≡ v

@@ -1,13 +1,12 @@
 -- Begin of a Store: refused with nothing changed, or the task begins in table and store alike.
-use Rattle.std.specs.Prelude.{ℕ, ◌+◌, ◌<◌, ◌≡◌, refl, ◌≢◌, Bool, true, false, get_or, ltb, leb, eqb}
+use Rattle.std.specs.Prelude.{ℕ, ◌+◌, ◌<◌, ◌≡◌, refl, ◌≢◌, Bool, true, false, get_or, ltb, leb, eqb, Option}
 use Rattle.std.proofs.Common.{sym, ◌∙◌, arith, ltb-true, leb-false}
 use mathlib.Core.List.{List, []}
 use Rattle.std.proofs.lemmas.Bool.{eqb-false}
 use Rattle.table.specs.declared.Limits.{Limits}
+use Rattle.table.specs.declared.Making.{Making}
 use Rattle.table.specs.declared.Operand.{Operand}
 use Rattle.table.specs.declared.Operand.TheVariants.{Plain, Pointer}
-use Rattle.table.specs.declared.Pending.{Pending}
-use Rattle.table.specs.declared.Storing.TheVariants.{Slot}
 use Rattle.table.specs.declared.Then.TheVariants.{ToWrite}
 use Rattle.table.specs.declared.Place.TheVariants.{Idle, StoreWrite, Looking}
 use Rattle.table.specs.declared.Primary.{Primary}
@@ -18,7 +17,7 @@ use Rattle.machine.specs.History.{History}
 use Rattle.machine.specs.Basics.{pick}
 use Rattle.machine.specs.Numbers.{refusal}
 use Rattle.machine.specs.Words.{primary, operand_word, object_of}
-use Rattle.machine.specs.Entries.{entry, task_at, with_task, out}
+use Rattle.machine.specs.Entries.{entry, task_at, with_task, out, storing_on}
 use Rattle.machine.specs.Tasks.{holding_of, slot_taken}
 use Rattle.machine.specs.Begin.{held_at, is_pointer, same_test, store_place, store_slot, store_from, begin_store_of, begin_store_pointer_of}
 use Rattle.machine.specs.Call.{Call}
@@ -42,7 +41,7 @@ use Rattle.machine.proofs.Beside.Begins.{Keeps, either, same_test_lem, at_pointe
 
 -- ---- the place of a Store just begun
 -- a Store that begins is busy, pays nothing yet and claims nothing
-begun_stands : (on : Bool) (old : ℕ) (v : Operand) → Stands (store_place on old v) × (left_to_pay (store_place on old v) ≡ 0) × ((x : ℕ) → ClaimIn (holding_of (store_place on old v)) x → ⊥)
+begun_stands : (on : Bool) (old : ℕ) (v : Operand Primary) → Stands (store_place on old v) × (left_to_pay (store_place on old v) ≡ 0) × ((x : ℕ) → ClaimIn (holding_of (store_place on old v)) x → ⊥)
 unfolding holding_of
 begun_stands on old (Plain n) = (tt, refl, λ x h. h)
 begun_stands on old (Pointer q) = choose_place on (eqb old 0)
@@ -55,7 +54,7 @@ begun_stands on old (Pointer q) = choose_place on (eqb old 0)
     choose_place true false = (tt, refl, λ x h. h)
     choose_place false c = (tt, refl, λ x h. h)
 
-begun_jobs : (on : Bool) (old : ℕ) (v : Operand) → jobs_in (holding_of (store_place on old v)) ≡ 0
+begun_jobs : (on : Bool) (old : ℕ) (v : Operand Primary) → jobs_in (holding_of (store_place on old v)) ≡ 0
 unfolding holding_of
 begun_jobs on old (Plain u) = refl
 begun_jobs false old (Pointer q) = refl
@@ -65,21 +64,21 @@ begun_jobs true old (Pointer q) = by (eqb old 0)
     by true = refl
     by false = refl
 
-begun_doing : (regs : List Primary) (d : Pending) (on : Bool) (old x i : ℕ) (v : Operand)
-    → DoingAt (entry regs d (Slot (primary x) i) (store_place on old v)) (storing x i (operand_word v)) (store_place on old v)
+begun_doing : (regs : List Primary) (d : Option Making) (on : Bool) (old x i : ℕ) (v : Operand Primary)
+    → DoingAt (entry regs d (storing_on (primary x) i) (store_place on old v)) (storing x i (operand_word v)) (store_place on old v)
 begun_doing regs d on old x i (Plain u) = refl
 begun_doing regs d false old x i (Pointer q) = refl
 begun_doing regs d true old x i (Pointer q) = by (eqb old 0)
   where
     by : (c : Bool)
-        → DoingAt (entry regs d (Slot (primary x) i) (pick c (StoreWrite (Pointer q)) (Looking (primary old) (ToWrite (Pointer q))))) (storing x i q.0)
+        → DoingAt (entry regs d (storing_on (primary x) i) (pick c (StoreWrite (Pointer q)) (Looking (primary old) (ToWrite (Pointer q))))) (storing x i q.0)
         (pick c (StoreWrite (Pointer q)) (Looking (primary old) (ToWrite (Pointer q))))
     by true = refl
     by false = refl
 
 module _ {l : Limits} {w : Store} {hy : History} {t : Table} {ws : List ℕ} (g : Good l w hy t ws) where
   -- by the machine's words as by the objects' numbers
-  begun_at : (x i : ℕ) → Sound g.kept g.objects.shape x → 0 < x → i < g.objects.shape.len x → (v : Operand)
+  begun_at : (x i : ℕ) → Sound g.kept g.objects.shape x → 0 < x → i < g.objects.shape.len x → (v : Operand Primary)
       → is_pointer v ≡ ltb i (g.objects.shape.ptr x)
       → store_place t.on (get_or ws (g.pa x + i) 0) (at_operand g.pa v) ≡ at_place g.pa g.ra (store_place g.objects.on (g.objects.prim x i) v)
   begun_at x i z n d (Plain u) b = refl
@@ -107,17 +106,17 @@ module _ {l : Limits} {w : Store} {hy : History} {t : Table} {ws : List ℕ} (g 
       on false c = refl
 
   module _ (f : Answer → Store) (kept : (x : ℕ) → f (No (refusal x)) ≡ w) (task : ℕ) (ip : task < t.limits.p) (x i : ℕ)
-      (z : Sound g.kept g.objects.shape x) (v : Operand) (sv : SoundOperand g.kept g.objects.shape v)
+      (z : Sound g.kept g.objects.shape x) (v : Operand Primary) (sv : SoundOperand g.kept g.objects.shape v)
       (a : f Accepted ≡ doing w task (storing x i (operand_word v))) where
     -- nothing refuses it
     begins : held_at t ≡ false → (g.objects.tasks task).place ≡ Idle → 0 < x → i < g.objects.shape.len x → is_pointer v ≡ ltb i (g.objects.shape.ptr x)
         → slot_taken t.tasks t.limits.p task (primary (g.pa x)) i ≡ false
         → Keeps l hy ws f
-        (out (with_task t task (entry (task_at t task).regs (task_at t task).pending (Slot (primary (g.pa x)) i) (store_place t.on (get_or ws (g.pa x + i) 0) (at_operand g.pa v)))) Accepted)
+        (out (with_task t task (entry (task_at t task).regs (task_at t task).pending (storing_on (primary (g.pa x)) i) (store_place t.on (get_or ws (g.pa x + i) 0) (at_operand g.pa v)))) Accepted)
     begins held pe n d b free =
         rw (begun_at x i z n d v b) (
           rw a
-              (begun_good g task ip pe (Slot (primary x) i) (store_place g.objects.on (g.objects.prim x i) v) (storing x i (operand_word v))
+              (begun_good g task ip pe (storing_on (primary x) i) (store_place g.objects.on (g.objects.prim x i) v) (storing x i (operand_word v))
               (begin_store g.inv task ip pe x i v z n d b sv (slot_free g.agree g.inv task x i free (n, z.1, z.0)))
               (begun_jobs g.objects.on (g.objects.prim x i) v)
               (begun_doing (g.objects.tasks task).regs (g.objects.tasks task).pending g.objects.on (g.objects.prim x i) x i v) held

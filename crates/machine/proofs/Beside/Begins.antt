@@ -1,29 +1,27 @@
 -- Begin of New and of Fill: refused with nothing changed, or the task begins in table and store alike.
-use Rattle.std.specs.Prelude.{ℕ, ◌≤◌, ◌<◌, ◌≡◌, Bool, true, false, ltb}
+use Rattle.std.specs.Prelude.{ℕ, ◌≤◌, ◌<◌, ◌≡◌, Bool, true, false, ltb, Option, Some, None, Ok, Err}
 use Rattle.std.proofs.Math.Path.{refl, ap}
 use Rattle.std.proofs.Common.{sym, ◌∙◌, arith}
 use mathlib.Core.List.{List, []}
 use borrow.Author.Tests.{ltb-true, ltb-false, lt-leb, not-true}
 use Rattle.table.specs.declared.Limits.{Limits}
 use Rattle.table.specs.declared.Primary.{Primary}
+use Rattle.table.specs.declared.Making.{Making}
+use Rattle.table.specs.declared.Slot.{Slot}
 use Rattle.table.specs.declared.Operand.{Operand}
 use Rattle.table.specs.declared.Operand.TheVariants.{Plain, Pointer}
-use Rattle.table.specs.declared.Pending.{Pending}
-use Rattle.table.specs.declared.Pending.TheVariants.{Nothing, Making}
-use Rattle.table.specs.declared.Storing.{Storing}
 use Rattle.table.specs.declared.Place.{Place}
 use Rattle.table.specs.declared.Place.TheVariants.{Idle, New, FillWrite}
 use Rattle.table.specs.declared.Task.{Task}
 use Rattle.table.specs.declared.Table.{Table}
-use Rattle.table.specs.declared.Gate.TheVariants.{Open, Shut}
 use Rattle.table.specs.declared.Answer.{Answer}
 use Rattle.table.specs.declared.Answer.TheVariants.{Accepted, No}
 use Rattle.table.specs.declared.Outcome.{Outcome}
 use Rattle.machine.specs.History.{History}
 use Rattle.machine.specs.Basics.{pick}
 use Rattle.machine.specs.Numbers.{refusal}
-use Rattle.machine.specs.Words.{primary, operand_word, object_of}
-use Rattle.machine.specs.Entries.{entry, task_at, with_task, with_place, no, entered}
+use Rattle.machine.specs.Words.{primary, operand_word, object_of, wanted}
+use Rattle.machine.specs.Entries.{entry, task_at, with_task, with_place, no, entered, pending_with}
 use Rattle.machine.specs.Gate.{through, behind, call_gate, pair_gate}
 use Rattle.machine.specs.Tasks.{holding_of}
 use Rattle.machine.specs.Complete.{idle_at}
@@ -68,7 +66,7 @@ pub same_test_lem : (a b : Bool) → same_test a b ≡ true → a ≡ b
 same_test_lem true b e = sym e
 same_test_lem false b e = sym (not-true b e)
 
-pub at_pointer : (pa : ℕ → ℕ) (v : Operand) → is_pointer (at_operand pa v) ≡ is_pointer v
+pub at_pointer : (pa : ℕ → ℕ) (v : Operand Primary) → is_pointer (at_operand pa v) ≡ is_pointer v
 at_pointer pa (Plain w) = refl
 at_pointer pa (Pointer p) = refl
 
@@ -84,7 +82,7 @@ new_ok_lem s r len m = on (ltb 7 r) (ltb s len) (ltb len m) refl refl refl
 
 module _ {l : Limits} {w : Store} {hy : History} {t : Table} {ws : List ℕ} (g : Good l w hy t ws) where
   -- ---- an idle task begins
-  pub begun_good : (task : ℕ) → task < t.limits.p → (g.objects.tasks task).place ≡ Idle → (s : Storing) (pl : Place) (d : Doing)
+  pub begun_good : (task : ℕ) → task < t.limits.p → (g.objects.tasks task).place ≡ Idle → (s : Option Slot) (pl : Place) (d : Doing)
       → Inv g.kept t.limits.p t.limits.s (moves g.objects task (entry (g.objects.tasks task).regs (g.objects.tasks task).pending s pl))
       → jobs_in (holding_of pl) ≡ 0 → DoingAt (entry (g.objects.tasks task).regs (g.objects.tasks task).pending s pl) d pl → held_at t ≡ false → Stands pl → left_to_pay pl ≡ 0
       → ((x : ℕ) → ClaimIn (holding_of pl) x → ⊥)
@@ -145,7 +143,7 @@ module _ {l : Limits} {w : Store} {hy : History} {t : Table} {ws : List ℕ} (g 
     pub gate_keeps : (task : ℕ) (rest : Outcome) → (task < t.limits.p → Keeps l hy ws f rest) → Keeps l hy ws f (through (call_gate t ws task) t rest)
     gate_keeps task rest h = rw (call_gate_lem g.agree g.long task) (on (ltb task t.limits.p) refl)
       where
-        on : (b : Bool) → ltb task t.limits.p ≡ b → Keeps l hy ws f (through (pick b Open (Shut (refusal 2))) t rest)
+        on : (b : Bool) → ltb task t.limits.p ≡ b → Keeps l hy ws f (through (pick b (Ok tt) (Err (refusal 2))) t rest)
         on true e = h (ltb-true task t.limits.p e)
         on false e = no_keeps 2 tt refl
 
@@ -153,7 +151,7 @@ module _ {l : Limits} {w : Store} {hy : History} {t : Table} {ws : List ℕ} (g 
     pair_keeps task a b rest h = rw (pair_gate_lem g.agree g.long task a b) (on (ltb task t.limits.p) (ltb 7 a) (ltb 7 b) refl)
       where
         on : (c d e : Bool) → ltb task t.limits.p ≡ c
-            → Keeps l hy ws f (through (behind (pick c Open (Shut (refusal 2))) (pick d (Shut (refusal 3)) (pick e (Shut (refusal 3)) Open))) t rest)
+            → Keeps l hy ws f (through (behind (pick c (Ok tt) (Err (refusal 2))) (pick d (Err (refusal 3)) (pick e (Err (refusal 3)) (Ok tt)))) t rest)
         on true true e q = no_keeps 3 tt refl
         on true false true q = no_keeps 3 tt refl
         on true false false q = h (ltb-true task t.limits.p q)
@@ -180,17 +178,17 @@ module _ {l : Limits} {w : Store} {hy : History} {t : Table} {ws : List ℕ} (g 
         (begin ip (new_ok_lem t.limits.s r len m c) pe (g.objects.tasks task).pending refl)))
         (λ c. no_keeps 3 tt refl))
       where
-        begin : task < t.limits.p → (r < 8) × (len ≤ t.limits.s) × (m ≤ len) → (g.objects.tasks task).place ≡ Idle → (d : Pending) → (g.objects.tasks task).pending ≡ d
-            → Keeps l hy ws f (if_nothing (at_pending g.pa d) (pick (held_at t) (no t 7) (begun t task (New r len m))) (no t 6))
-        begin ip k pe Nothing de =
+        begin : task < t.limits.p → (r < 8) × (len ≤ t.limits.s) × (m ≤ len) → (g.objects.tasks task).place ≡ Idle → (d : Option Making) → (g.objects.tasks task).pending ≡ d
+            → Keeps l hy ws f (if_nothing (at_pending g.pa d) (pick (held_at t) (no t 7) (begun t task (New (wanted r len m)))) (no t 6))
+        begin ip k pe None de =
             either f (held_at t) _ _ (λ c. no_keeps 7 tt refl)
-            (λ c. (rw a (begins_good task ip pe (New r len m) (making r len m) (begin_new g.inv task ip pe r len m de k.0 k.1 k.2) refl refl c tt refl (λ x h. h)), tt))
-        begin ip k pe (Making x q n i) de = no_keeps 6 tt refl
+            (λ c. (rw a (begins_good task ip pe (New (wanted r len m)) (making r len m) (begin_new g.inv task ip pe r len m de k.0 k.1 k.2) refl refl c tt refl (λ x h. h)), tt))
+        begin ip k pe (Some d) de = no_keeps 6 tt refl
 
     -- a Fill of a sound value: the pending object is one, and has a slot to fill
-    module _ (task : ℕ) (ip : task < t.limits.p) (v : Operand) (sv : SoundOperand g.kept g.objects.shape v)
+    module _ (task : ℕ) (ip : task < t.limits.p) (v : Operand Primary) (sv : SoundOperand g.kept g.objects.shape v)
         (a : f Accepted ≡ doing w task (filling (operand_word v))) where
-      fill_slot_lem : held_at t ≡ false → (g.objects.tasks task).place ≡ Idle → (x : Primary) (r len i : ℕ) → (g.objects.tasks task).pending ≡ Making x r len i
+      fill_slot_lem : held_at t ≡ false → (g.objects.tasks task).place ≡ Idle → (x : Primary) (r len i : ℕ) → (g.objects.tasks task).pending ≡ pending_with x r len i
           → Keeps l hy ws f (fill_slot t task i (at_operand g.pa v) (object_of ws t.limits.s (primary (g.pa x.0))))
       unfolding holding_of
       fill_slot_lem held pe x r len i de =
@@ -204,7 +202,7 @@ module _ {l : Limits} {w : Store} {hy : History} {t : Table} {ws : List ℕ} (g 
           ))
           (λ b. no_keeps 5 tt refl))
         where
-          made : PendingOk g.kept g.objects.shape g.objects.hd g.objects.on (Making x r len i)
+          made : PendingOk g.kept g.objects.shape g.objects.hd g.objects.on (pending_with x r len i)
           made = rw de at (g.inv.entries task).pending
 
           unfull : Unfull (g.objects.tasks task).pending
@@ -213,10 +211,10 @@ module _ {l : Limits} {w : Store} {hy : History} {t : Table} {ws : List ℕ} (g 
           room : i < g.objects.shape.len x.0
           room = let u : i < len = rw de at unfull in omega (arith, made.3)
 
-      fill_pending_lem : (g.objects.tasks task).place ≡ Idle → (d : Pending) → (g.objects.tasks task).pending ≡ d
+      fill_pending_lem : (g.objects.tasks task).place ≡ Idle → (d : Option Making) → (g.objects.tasks task).pending ≡ d
           → Keeps l hy ws f (fill_pending t ws task (at_operand g.pa v) (at_pending g.pa d))
-      fill_pending_lem pe Nothing de = no_keeps 6 tt refl
-      fill_pending_lem pe (Making x r len i) de = either f (held_at t) _ _ (λ c. no_keeps 7 tt refl) (λ c. fill_slot_lem c pe x r len i de)
+      fill_pending_lem pe None de = no_keeps 6 tt refl
+      fill_pending_lem pe (Some d) de = either f (held_at t) _ _ (λ c. no_keeps 7 tt refl) (λ c. fill_slot_lem c pe d.at d.register d.len d.filled de)
 
       pub fill_keeps : Keeps l hy ws f (fill_from t ws task (at_operand g.pa v))
       unfolding fill_from

@@ -7,7 +7,7 @@ use Rattle.table.specs.declared.Primary.{Primary}
 use Rattle.table.specs.declared.Table.{Table}
 use Rattle.table.specs.declared.Refusal.{Refusal}
 use Rattle.table.specs.declared.Answer.{Answer}
-use Rattle.table.specs.declared.Answer.TheVariants.{Accepted, Done, Value, Moved, Wait, Report, No}
+use Rattle.table.specs.declared.Answer.TheVariants.{Accepted, No}
 use Rattle.table.specs.declared.Outcome.{Outcome}
 use Rattle.machine.specs.Numbers.{refusal}
 use Rattle.machine.specs.Entries.{task_at, register}
@@ -35,7 +35,7 @@ module _ (w : Store) (f : Answer → Store) (kept : (x : Refusal) → f (No x) �
       through_all (Leaves w f) (call_gate t ws i) t _ kept
       (pick_all (Leaves w f) (new_ok t.limits.s r len m) _ _ (λ e. rw busy (kept (refusal 6))) (λ e. kept (refusal 3)))
 
-  fill_from_lem : (v : Operand) → Leaves w f (fill_from t ws i v)
+  fill_from_lem : (v : Operand Primary) → Leaves w f (fill_from t ws i v)
   unfolding fill_from
   fill_from_lem v = rw busy (kept (refusal 6))
 
@@ -49,7 +49,7 @@ module _ (w : Store) (f : Answer → Store) (kept : (x : Refusal) → f (No x) �
       through_all (Leaves w f) (call_gate t ws i) t _ kept
       (pick_all (Leaves w f) (ltb 7 r) _ _ (λ e. kept (refusal 3)) (λ e. fill_from_lem (Pointer (register (task_at t i) r))))
 
-  store_from_lem : (x : Primary) (slot : ℕ) (v : Operand) → Leaves w f (store_from t ws i x slot v)
+  store_from_lem : (x : Primary) (slot : ℕ) (v : Operand Primary) → Leaves w f (store_from t ws i x slot v)
   unfolding store_from
   store_from_lem x slot v = rw busy (kept (refusal 6))
 
@@ -68,12 +68,7 @@ module _ (w : Store) (f : Answer → Store) (kept : (x : Refusal) → f (No x) �
 report_leaves : (w : Store) (x : Answer) → told w Call.Report x [] ≡ w
 unfolding happen_all
 report_leaves w Accepted = refl
-report_leaves w Done = refl
-report_leaves w (Value v) = refl
-report_leaves w Moved = refl
-report_leaves w (Wait q) = refl
-report_leaves w (Report on live copies) = refl
-report_leaves w (No x) = refl
+report_leaves w _ = refl
 
 -- a call, no step, of a task that is not idle leaves the store
 pub busy_leaves : (w : Store) (c : Call) (t : Table) (ws : List ℕ) → NotStep c → idle_at t (task_of c) ≡ false → told w c (call c t ws).out.answer [] ≡ w

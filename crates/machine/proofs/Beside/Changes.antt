@@ -1,28 +1,24 @@
 -- What a call that is no step makes of the task entries, and of its own task's Store.
-use Rattle.std.specs.Prelude.{ℕ, ◌+◌, ◌≡◌, List, Bool, false, get_or, set, ltb, leb, eqb}
+use Rattle.std.specs.Prelude.{ℕ, ◌+◌, ◌≡◌, List, Bool, false, get_or, set, ltb, leb, eqb, Option, Some, None, Ok, Err}
 use Rattle.std.proofs.Math.Path.{refl}
 use Rattle.std.proofs.Math.Bool.{true}
 use Rattle.std.proofs.Common.{arith}
 use Rattle.table.specs.declared.Primary.{Primary}
+use Rattle.table.specs.declared.Descriptor.{Descriptor}
+use Rattle.table.specs.declared.Making.{Making}
 use Rattle.table.specs.declared.Operand.{Operand}
 use Rattle.table.specs.declared.Operand.TheVariants.{Plain, Pointer}
-use Rattle.table.specs.declared.Pending.{Pending}
-use Rattle.table.specs.declared.Pending.TheVariants.{Nothing, Making}
 use Rattle.table.specs.declared.Then.TheVariants.{ToWrite, ToStoreCopy, ToFillCopy, ToPut}
 use Rattle.table.specs.declared.Place.{Place}
 use Rattle.table.specs.declared.Place.TheVariants.{Idle, New, Asked, FillWrite, FillCopy, StoreWrite, Meet, StoreCopy, Take, Read, Put, Release, Looking, Placing}
 use Rattle.table.specs.declared.Task.{Task}
 use Rattle.table.specs.declared.Table.{Table}
-use Rattle.table.specs.declared.Object.{Object}
-use Rattle.table.specs.declared.Object.TheVariants.{Whole, Torn}
-use Rattle.table.specs.declared.Gate.{Gate}
-use Rattle.table.specs.declared.Gate.TheVariants.{Open, Shut}
 use Rattle.table.specs.declared.Refusal.{Refusal}
 use Rattle.table.specs.declared.Answer.{Answer}
 use Rattle.table.specs.declared.Answer.TheVariants.{Done}
 use Rattle.table.specs.declared.Outcome.{Outcome}
-use Rattle.machine.specs.Basics.{pick}
-use Rattle.machine.specs.Words.{object_of}
+use Rattle.machine.specs.Basics.{pick, Gate}
+use Rattle.machine.specs.Words.{object_of, wanted}
 use Rattle.machine.specs.Numbers.{refusal, Effect, harmless, ends_new, spends, breaks, effect_of}
 use Rattle.machine.specs.Entries.{task_at, nil, register, with_task, with_place, with_register, with_root, marked, out, refused, no}
 use Rattle.machine.specs.Gate.{through, call_gate, pair_gate, table_gate}
@@ -40,8 +36,8 @@ pick_all P true x y p q = p refl
 pick_all P false x y p q = q refl
 
 pub through_all : (P : Outcome → Type 0) (g : Gate) (t : Table) (o : Outcome) → ((x : Refusal) → P (refused t x)) → P o → P (through g t o)
-through_all P Open t o r p = p
-through_all P (Shut x) t o r p = r x
+through_all P (Ok u) t o r p = p
+through_all P (Err x) t o r p = r x
 
 -- a refusal leaves the entries
 pub marked_tasks : (t : Table) (x : Effect) → (marked t x).tasks ≡ t.tasks
@@ -61,25 +57,25 @@ marked_on t breaks = refl
 pub idle_waits : (p : Place) → idle_of (holding_of p) ≡ true → waits p ≡ 0
 unfolding holding_of
 idle_waits Idle h = refl
-idle_waits (New r len m) h = refl
-idle_waits (Asked r len m) h = refl
+idle_waits (New want) h = refl
+idle_waits (Asked want) h = refl
 idle_waits (FillWrite v) h = refl
 idle_waits (FillCopy c) h = refl
 idle_waits (StoreWrite v) h = off_on h
 idle_waits (Meet v) h = refl
 idle_waits (StoreCopy c) h = refl
 idle_waits (Take n) h = refl
-idle_waits (Read n x i) h = refl
-idle_waits (Put n x i c) h = refl
-idle_waits (Release n x i) h = refl
+idle_waits (Read n job) h = refl
+idle_waits (Put n job c) h = refl
+idle_waits (Release n job) h = refl
 idle_waits (Looking p (ToWrite v)) h = off_on h
 idle_waits (Looking p ToStoreCopy) h = refl
 idle_waits (Looking p ToFillCopy) h = refl
-idle_waits (Looking p (ToPut n x i)) h = refl
+idle_waits (Looking p (ToPut n job)) h = refl
 idle_waits (Placing p (ToWrite v)) h = off_on h
 idle_waits (Placing p ToStoreCopy) h = refl
 idle_waits (Placing p ToFillCopy) h = refl
-idle_waits (Placing p (ToPut n x i)) h = refl
+idle_waits (Placing p (ToPut n job)) h = refl
 
 -- A call of task i whose answer x says that b x Stores were begun: the entries stay, or only its own is a new one. The
 -- collector is on or off as before.
@@ -128,11 +124,11 @@ module _ (t : Table) (ws : List ℕ) (i : ℕ) where
   same_entries a b =
       two a b _ (pick_all (Answered no_store t i) (eqb (register (task_at t i) a).0 (register (task_at t i) b).0) _ _ (λ e. stayed refl refl refl) (λ e. stayed refl refl refl))
 
-  load_slot_lem : (to : ℕ) (p : Primary) (slot : ℕ) (x : Object) → Answered no_store t i (load_slot t ws i to p slot x)
-  load_slot_lem to p slot (Whole len m) =
-      pick_all (Answered no_store t i) (leb len slot) _ _ (λ e. refuses (refusal 5))
-      (λ e. pick_all (Answered no_store t i) (ltb slot m) _ _ (λ f. registered to _) (λ f. stayed refl refl refl))
-  load_slot_lem to p slot Torn = refuses (refusal 11)
+  load_slot_lem : (to : ℕ) (p : Primary) (slot : ℕ) (x : Option Descriptor) → Answered no_store t i (load_slot t ws i to p slot x)
+  load_slot_lem to p slot (Some o) =
+      pick_all (Answered no_store t i) (leb o.len slot) _ _ (λ e. refuses (refusal 5))
+      (λ e. pick_all (Answered no_store t i) (ltb slot o.m) _ _ (λ f. registered to _) (λ f. stayed refl refl refl))
+  load_slot_lem to p slot None = refuses (refusal 11)
 
   pub load_entries : (to from slot : ℕ) → Answered no_store t i (load_of t ws i to from slot)
   unfolding load_of load_from
@@ -157,23 +153,23 @@ module _ (t : Table) (ws : List ℕ) (i : ℕ) where
       (λ e. pick_all (Answered no_store t i) (idle_at t i) _ _ (λ f. fresh f (task_at t i).pending) (λ f. refuses (refusal 6)))
       (λ e. refuses (refusal 3)))
     where
-      fresh : idle_at t i ≡ true → (d : Pending) → Answered no_store t i (if_nothing d (pick (held_at t) (no t 7) (begun t i (New r len m))) (no t 6))
-      fresh f Nothing = pick_all (Answered no_store t i) (held_at t) _ _ (λ e. refuses (refusal 7)) (λ e. begins (New r len m) f refl)
-      fresh f (Making p q l n) = refuses (refusal 6)
+      fresh : idle_at t i ≡ true → (d : Option Making) → Answered no_store t i (if_nothing d (pick (held_at t) (no t 7) (begun t i (New (wanted r len m)))) (no t 6))
+      fresh f None = pick_all (Answered no_store t i) (held_at t) _ _ (λ e. refuses (refusal 7)) (λ e. begins (New (wanted r len m)) f refl)
+      fresh f (Some d) = refuses (refusal 6)
 
-  fill_slot_lem : (f : ℕ) (v : Operand) (x : Object) → idle_at t i ≡ true → Answered no_store t i (fill_slot t i f v x)
-  fill_slot_lem f v (Whole len m) h =
-      pick_all (Answered no_store t i) (leb len f) _ _ (λ e. refuses (refusal 11))
+  fill_slot_lem : (f : ℕ) (v : Operand Primary) (x : Option Descriptor) → idle_at t i ≡ true → Answered no_store t i (fill_slot t i f v x)
+  fill_slot_lem f v (Some o) h =
+      pick_all (Answered no_store t i) (leb o.len f) _ _ (λ e. refuses (refusal 11))
       (λ e.
-      pick_all (Answered no_store t i) (same_test (is_pointer v) (ltb f m)) _ _ (λ g. begins (FillWrite v) h refl) (λ g. refuses (refusal 5)))
-  fill_slot_lem f v Torn h = refuses (refusal 11)
+      pick_all (Answered no_store t i) (same_test (is_pointer v) (ltb f o.m)) _ _ (λ g. begins (FillWrite v) h refl) (λ g. refuses (refusal 5)))
+  fill_slot_lem f v None h = refuses (refusal 11)
 
-  fill_pending_lem : (v : Operand) (d : Pending) → idle_at t i ≡ true → Answered no_store t i (fill_pending t ws i v d)
-  fill_pending_lem v Nothing h = refuses (refusal 6)
-  fill_pending_lem v (Making p r len f) h =
-      pick_all (Answered no_store t i) (held_at t) _ _ (λ e. refuses (refusal 7)) (λ e. fill_slot_lem f v (object_of ws t.limits.s p) h)
+  fill_pending_lem : (v : Operand Primary) (d : Option Making) → idle_at t i ≡ true → Answered no_store t i (fill_pending t ws i v d)
+  fill_pending_lem v None h = refuses (refusal 6)
+  fill_pending_lem v (Some d) h =
+      pick_all (Answered no_store t i) (held_at t) _ _ (λ e. refuses (refusal 7)) (λ e. fill_slot_lem d.filled v (object_of ws t.limits.s d.at) h)
 
-  fill_from_lem : (v : Operand) → Answered no_store t i (fill_from t ws i v)
+  fill_from_lem : (v : Operand Primary) → Answered no_store t i (fill_from t ws i v)
   unfolding fill_from
   fill_from_lem v =
       pick_all (Answered no_store t i) (idle_at t i) _ _ (λ e. fill_pending_lem v (task_at t i).pending e) (λ e. refuses (refusal 6))
@@ -189,7 +185,7 @@ module _ (t : Table) (ws : List ℕ) (i : ℕ) where
       (pick_all (Answered no_store t i) (ltb 7 r) _ _ (λ e. refuses (refusal 3)) (λ e. fill_from_lem (Pointer (register (task_at t i) r))))
 
   -- ---- Store begun: it waits to be written, and no_store did before
-  store_waits : (on : Bool) (old : ℕ) (v : Operand) → waits (store_place on old v) ≡ 1
+  store_waits : (on : Bool) (old : ℕ) (v : Operand Primary) → waits (store_place on old v) ≡ 1
   store_waits on old (Plain w) = refl
   store_waits on old (Pointer p) =
       pick_all (λ q. waits q ≡ 1) on _ _ (λ e. pick_all (λ q. waits q ≡ 1) (eqb old 0) _ _ (λ f. refl) (λ f. refl)) (λ e. refl)
@@ -198,18 +194,18 @@ module _ (t : Table) (ws : List ℕ) (i : ℕ) where
   unfolding with_task
   stores x slot p e z = entered _ refl refl (omega (arith, idle_waits (task_at t i).place e))
 
-  store_slot_lem : (x : Primary) (slot : ℕ) (v : Operand) (y : Object) → idle_at t i ≡ true → Answered if_accepted t i (store_slot t ws i x slot v y)
-  store_slot_lem x slot v (Whole len m) h =
-      pick_all (Answered if_accepted t i) (leb len slot) _ _ (λ e. refuses_store (refusal 5))
+  store_slot_lem : (x : Primary) (slot : ℕ) (v : Operand Primary) (y : Option Descriptor) → idle_at t i ≡ true → Answered if_accepted t i (store_slot t ws i x slot v y)
+  store_slot_lem x slot v (Some o) h =
+      pick_all (Answered if_accepted t i) (leb o.len slot) _ _ (λ e. refuses_store (refusal 5))
       (λ e.
-      pick_all (Answered if_accepted t i) (same_test (is_pointer v) (ltb slot m)) _ _
+      pick_all (Answered if_accepted t i) (same_test (is_pointer v) (ltb slot o.m)) _ _
       (λ f.
       pick_all (Answered if_accepted t i) (slot_taken t.tasks t.limits.p i x slot) _ _ (λ g. refuses_store (refusal 8))
       (λ g. stores x slot _ h (store_waits t.on (get_or ws (x.0 + slot) 0) v)))
       (λ f. refuses_store (refusal 5)))
-  store_slot_lem x slot v Torn h = refuses_store (refusal 11)
+  store_slot_lem x slot v None h = refuses_store (refusal 11)
 
-  store_from_lem : (x : Primary) (slot : ℕ) (v : Operand) → Answered if_accepted t i (store_from t ws i x slot v)
+  store_from_lem : (x : Primary) (slot : ℕ) (v : Operand Primary) → Answered if_accepted t i (store_from t ws i x slot v)
   unfolding store_from
   store_from_lem x slot v =
       pick_all (Answered if_accepted t i) (idle_at t i) _ _

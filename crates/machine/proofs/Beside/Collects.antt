@@ -1,7 +1,7 @@
 -- A collection goes on: a step's counts, and what lived at the flip as before.
 use Rattle.std.specs.Prelude.{ℕ, ◌≡◌, refl, ◌≢◌}
 use Rattle.table.specs.declared.Operand.{Operand}
-use Rattle.table.specs.declared.Copied.{Copied}
+use Rattle.table.specs.declared.Replica.{Replica}
 use Rattle.table.specs.declared.Primary.{Primary}
 use Rattle.table.specs.declared.Then.{Then}
 use Rattle.table.specs.declared.Then.TheVariants.{ToWrite, ToStoreCopy, ToFillCopy, ToPut}
@@ -37,25 +37,17 @@ collects {h = h} c o' t' es eg forgiven counts = record {
 pub not_idle : (pl : Place) → Stands pl → pl ≢ Idle
 not_idle pl s e = rw e at s
 
--- what follows a look pays as much and claims nothing
-pub on_left : (q : ℕ) (th : Then) → left_to_pay (go_on th (replica q)) ≡ then_left th
-on_left q (ToWrite v) = refl
-on_left q ToStoreCopy = refl
-on_left q ToFillCopy = refl
-on_left q (ToPut n x i) = refl
-
+-- what follows a look claims nothing
 pub on_free : (q : ℕ) (th : Then) (x : ℕ) → ClaimIn (holding_of (go_on th (replica q))) x → ⊥
 unfolding holding_of
 on_free q (ToWrite v) x h = h
-on_free q ToStoreCopy x h = h
-on_free q ToFillCopy x h = h
-on_free q (ToPut n y i) x h = h
+on_free q _ x h = h
 
 -- and so does what follows a value that is known
-pub ahead_left : (v : Operand) (th : Then) (copy : Copied → Place) → ((c : Copied) → left_to_pay (copy c) ≡ then_left th) → left_to_pay (look_ahead v th copy) ≡ then_left th
+pub ahead_left : (v : Operand Primary) (th : Then) (copy : Operand Replica → Place) → ((c : Operand Replica) → left_to_pay (copy c) ≡ then_left th) → left_to_pay (look_ahead v th copy) ≡ then_left th
 ahead_left v th copy f = by_ahead (λ pl. left_to_pay pl ≡ then_left th) v th copy f (λ p. refl)
 
-pub ahead_free : (v : Operand) (th : Then) (copy : Copied → Place) → ((c : Copied) (x : ℕ) → ClaimIn (holding_of (copy c)) x → ⊥) → (x : ℕ)
+pub ahead_free : (v : Operand Primary) (th : Then) (copy : Operand Replica → Place) → ((c : Operand Replica) (x : ℕ) → ClaimIn (holding_of (copy c)) x → ⊥) → (x : ℕ)
     → ClaimIn (holding_of (look_ahead v th copy)) x → ⊥
 unfolding holding_of
 ahead_free v th copy f x = by_ahead (λ pl. ClaimIn (holding_of pl) x → ⊥) v th copy (λ c. f c x) (λ p. free p th)
@@ -64,4 +56,4 @@ ahead_free v th copy f x = by_ahead (λ pl. ClaimIn (holding_of pl) x → ⊥) v
     free p (ToWrite v) = λ h. h
     free p ToStoreCopy = λ h. h
     free p ToFillCopy = λ h. h
-    free p (ToPut n y i) = λ h. h
+    free p (ToPut n job) = λ h. h

@@ -20,30 +20,31 @@ use Rattle.machine.proofs.Agree.Complete.{if_two, is_idle, task_in}
 use Rattle.machine.proofs.Beside.Still.{DoingAt}
 use Rattle.machine.proofs.Beside.Doing.{busy}
 use Rattle.machine.proofs.Beside.Good.{Good, Undamaged}
+use Rattle.machine.specs.Words.{slot_at, wanted}
 
 -- a task is idle in the table exactly if it rests in the store
 pub idle_rests : (e : Task) (d : Doing) (pl : Place) → DoingAt e d pl → idle_of (holding_of pl) ≡ is_resting d
 unfolding holding_of
 idle_rests e d Idle h = sym (ap is_resting h)
-idle_rests e d (New r len m) h = sym (busy e d (New r len m) tt h)
-idle_rests e d (Asked r len m) h = sym (busy e d (Asked r len m) tt h)
+idle_rests e d (New want) h = sym (busy e d (New want) tt h)
+idle_rests e d (Asked want) h = sym (busy e d (Asked want) tt h)
 idle_rests e d (FillWrite v) h = sym (busy e d (FillWrite v) tt h)
 idle_rests e d (FillCopy c) h = sym (busy e d (FillCopy c) tt h)
 idle_rests e d (StoreWrite v) h = sym (busy e d (StoreWrite v) tt h)
 idle_rests e d (Meet v) h = sym (busy e d (Meet v) tt h)
 idle_rests e d (StoreCopy c) h = sym (busy e d (StoreCopy c) tt h)
 idle_rests e d (Take n) h = sym (busy e d (Take n) tt h)
-idle_rests e d (Read n x i) h = sym (busy e d (Read n x i) tt h)
-idle_rests e d (Put n x i c) h = sym (busy e d (Put n x i c) tt h)
-idle_rests e d (Release n x i) h = sym (busy e d (Release n x i) tt h)
+idle_rests e d (Read n job) h = sym (busy e d (Read n job) tt h)
+idle_rests e d (Put n job c) h = sym (busy e d (Put n job c) tt h)
+idle_rests e d (Release n job) h = sym (busy e d (Release n job) tt h)
 idle_rests e d (Looking q (ToWrite v)) h = sym (busy e d (Looking q (ToWrite v)) tt h)
 idle_rests e d (Looking q ToStoreCopy) h = sym (busy e d (Looking q ToStoreCopy) tt h)
 idle_rests e d (Looking q ToFillCopy) h = sym (busy e d (Looking q ToFillCopy) tt h)
-idle_rests e d (Looking q (ToPut n x i)) h = sym (busy e d (Looking q (ToPut n x i)) tt h)
+idle_rests e d (Looking q (ToPut n job)) h = sym (busy e d (Looking q (ToPut n job)) tt h)
 idle_rests e d (Placing q (ToWrite v)) h = sym (busy e d (Placing q (ToWrite v)) tt h)
 idle_rests e d (Placing q ToStoreCopy) h = sym (busy e d (Placing q ToStoreCopy) tt h)
 idle_rests e d (Placing q ToFillCopy) h = sym (busy e d (Placing q ToFillCopy) tt h)
-idle_rests e d (Placing q (ToPut n x i)) h = sym (busy e d (Placing q (ToPut n x i)) tt h)
+idle_rests e d (Placing q (ToPut n job)) h = sym (busy e d (Placing q (ToPut n job)) tt h)
 
 -- an outcome after which the store, as told by f, stands beside the table, with this answer
 pub record Meant (l : Limits) (hy : History) (ws : List ℕ) (f : Answer → Store) (y : Answer) (r : Outcome) : Type 1 where

@@ -8,8 +8,8 @@ use borrow.Author.Tests.{lt-leb, ltb-true}
 use Rattle.table.specs.declared.Limits.{Limits}
 use Rattle.table.specs.declared.Primary.{Primary}
 use Rattle.table.specs.declared.Operand.{Operand}
+use Rattle.table.specs.declared.Replica.{Replica}
 use Rattle.table.specs.declared.Operand.TheVariants.{Plain, Pointer}
-use Rattle.table.specs.declared.Copied.{Copied}
 use Rattle.table.specs.declared.Then.TheVariants.{ToPut}
 use Rattle.table.specs.declared.Place.TheVariants.{Read, Put, Release}
 use Rattle.table.specs.declared.Deed.TheVariants.{Goes}
@@ -18,7 +18,7 @@ use Rattle.table.specs.declared.Task.{Task}
 use Rattle.table.specs.declared.Table.{Table}
 use Rattle.machine.specs.History.{History}
 use Rattle.machine.specs.Basics.{pick}
-use Rattle.machine.specs.Words.{primary, copied_word}
+use Rattle.machine.specs.Words.{primary, copied_word, slot_at}
 use Rattle.machine.specs.Entries.{task_at, moved_table, out, ends}
 use Rattle.machine.specs.Deeds.{acted}
 use Rattle.machine.specs.Look.{look_ahead}
@@ -45,13 +45,13 @@ use Rattle.machine.proofs.Beside.Good.{Good, Comes, comes_moved}
 use Rattle.machine.proofs.Beside.Glue.{copied_word_lem, at_ahead, look_placed, below, moved_goes, busy_at}
 
 -- the job in hand stays, and the store knows no more than that the task is busy
-ahead_jobs : (v : Operand) (n : ℕ) (x : Primary) (k : ℕ) → 1 ≡ jobs_in (holding_of (look_ahead v (ToPut n x k) (Put n x k)))
+ahead_jobs : (v : Operand Primary) (n : ℕ) (x : Primary) (k : ℕ) → 1 ≡ jobs_in (holding_of (look_ahead v (ToPut n (slot_at x k)) (Put n (slot_at x k))))
 unfolding holding_of
-ahead_jobs v n x k = by_ahead (λ pl. 1 ≡ jobs_in (holding_of pl)) v (ToPut n x k) (Put n x k) (λ c. refl) (λ p. refl)
+ahead_jobs v n x k = by_ahead (λ pl. 1 ≡ jobs_in (holding_of pl)) v (ToPut n (slot_at x k)) (Put n (slot_at x k)) (λ c. refl) (λ p. refl)
 
-ahead_doing : (e : Task) (d : Doing) (v : Operand) (n : ℕ) (x : Primary) (k : ℕ) → is_resting d ≡ false
-    → DoingAt (goes e (look_ahead v (ToPut n x k) (Put n x k))) d (look_ahead v (ToPut n x k) (Put n x k))
-ahead_doing e d v n x k h = by_ahead (λ pl. DoingAt (goes e pl) d pl) v (ToPut n x k) (Put n x k) (λ c. h) (λ p. h)
+ahead_doing : (e : Task) (d : Doing) (v : Operand Primary) (n : ℕ) (x : Primary) (k : ℕ) → is_resting d ≡ false
+    → DoingAt (goes e (look_ahead v (ToPut n (slot_at x k)) (Put n (slot_at x k)))) d (look_ahead v (ToPut n (slot_at x k)) (Put n (slot_at x k)))
+ahead_doing e d v n x k h = by_ahead (λ pl. DoingAt (goes e pl) d pl) v (ToPut n (slot_at x k)) (Put n (slot_at x k)) (λ c. h) (λ p. h)
 
 module _ {l : Limits} {w : Store} {hy : History} {t : Table} {ws : List ℕ} (g : Good l w hy t ws) (i : ℕ) (ip : i < t.limits.p) (X : Type 0) (n : ℕ) (x : Primary) (k : ℕ) where
   colours : g.objects.on ≡ true → Colours g.kept g.objects.shape g.objects.snap g.objects.hd g.objects.prim g.objects.rep g.objects.has g.objects.stack
@@ -74,35 +74,35 @@ module _ {l : Limits} {w : Store} {hy : History} {t : Table} {ws : List ℕ} (g 
     pub short : k < g.objects.shape.len x.0
     short = omega (arith, filled, g.inv.shapes.filled x.0, g.inv.shapes.written x.0)
 
-  module _ (pe : (g.objects.tasks i).place ≡ Read n x k) where
+  module _ (pe : (g.objects.tasks i).place ≡ Read n (slot_at x k)) where
     live_r : g.objects.on ≡ true
-    live_r = (at_place_lem g.inv i (Read n x k) pe).0
+    live_r = (at_place_lem g.inv i (Read n (slot_at x k)) pe).0
 
     lock_r : g.objects.hd x.0 ≡ locked k i
-    lock_r = (at_place_lem g.inv i (Read n x k) pe).2
+    lock_r = (at_place_lem g.inv i (Read n (slot_at x k)) pe).2
 
-    goes_on : (v : Operand) → SoundOperand g.kept g.objects.shape v
-        → Inv g.kept t.limits.p t.limits.s (moves g.objects i (goes (g.objects.tasks i) (look_ahead v (ToPut n x k) (Put n x k))))
-        → Comes l w hy t ws i (at_place g.pa g.ra (Read n x k)) X
+    goes_on : (v : Operand Primary) → SoundOperand g.kept g.objects.shape v
+        → Inv g.kept t.limits.p t.limits.s (moves g.objects i (goes (g.objects.tasks i) (look_ahead v (ToPut n (slot_at x k)) (Put n (slot_at x k)))))
+        → Comes l w hy t ws i (at_place g.pa g.ra (Read n (slot_at x k))) X
         (ends
         (out
         (moved_table t i t.marks (task_at t i).pending
-        (look_ahead (at_operand g.pa v) (ToPut n (at_primary g.pa x) k) (Put n (at_primary g.pa x) k))) Moved) ws)
+        (look_ahead (at_operand g.pa v) (ToPut n (slot_at (at_primary g.pa x) k)) (Put n (slot_at (at_primary g.pa x) k)))) Moved) ws)
     unfolding happen_all holding_of
     goes_on v s inv =
-        comes_moved g i (below g i ip) (at_place g.pa g.ra (Read n x k)) X g.kept g.pa g.ra
-        (moves g.objects i (goes (g.objects.tasks i) (look_ahead v (ToPut n x k) (Put n x k)))) live_r t.marks _ _
-        (goes (g.objects.tasks i) (look_ahead v (ToPut n x k) (Put n x k))) ws
-        (rw (at_ahead g.agree.lay v s (ToPut n x k) (Put n x k) (Put n (at_primary g.pa x) k) (λ c. refl))
-        (moved_goes g i ip t.marks (look_ahead v (ToPut n x k) (Put n x k))))
+        comes_moved g i (below g i ip) (at_place g.pa g.ra (Read n (slot_at x k))) X g.kept g.pa g.ra
+        (moves g.objects i (goes (g.objects.tasks i) (look_ahead v (ToPut n (slot_at x k)) (Put n (slot_at x k))))) live_r t.marks _ _
+        (goes (g.objects.tasks i) (look_ahead v (ToPut n (slot_at x k)) (Put n (slot_at x k)))) ws
+        (rw (at_ahead g.agree.lay v s (ToPut n (slot_at x k)) (Put n (slot_at x k)) (Put n (slot_at (at_primary g.pa x) k)) (λ c. refl))
+        (moved_goes g i ip t.marks (look_ahead v (ToPut n (slot_at x k)) (Put n (slot_at x k)))))
         inv
-        (moves_agree g.inv g.agree i ip (goes (g.objects.tasks i) (look_ahead v (ToPut n x k) (Put n x k))) t.marks.j
+        (moves_agree g.inv g.agree i ip (goes (g.objects.tasks i) (look_ahead v (ToPut n (slot_at x k)) (Put n (slot_at x k)))) t.marks.j
         (rw pe (ap (λ m. t.marks.j + m) (ahead_jobs v n x k))) (omega arith))
-        (still_goes g.still i (below g i ip) (look_ahead v (ToPut n x k) (Put n x k))
-        (ahead_doing (g.objects.tasks i) (owner_at w i).doing v n x k (busy_at g i ip (Read n x k) pe tt))) ip (stands_ahead v (ToPut n x k) (Put n x k) (λ c. tt)) hy.copies refl
-        (collects (g.collecting live_r) _ _ refl refl (g.collecting live_r).forgiven (counts_goes g.inv live_r (g.collecting live_r).counts i ip (Read n x k) (look_ahead v (ToPut n x k) (Put n x k)) pe (not_idle (Read n x k) tt) (ahead_left v (ToPut n x k) (Put n x k) (λ c. refl)) (ahead_free v (ToPut n x k) (Put n x k) (λ c y h. h))))
+        (still_goes g.still i (below g i ip) (look_ahead v (ToPut n (slot_at x k)) (Put n (slot_at x k)))
+        (ahead_doing (g.objects.tasks i) (owner_at w i).doing v n x k (busy_at g i ip (Read n (slot_at x k)) pe tt))) ip (stands_ahead v (ToPut n (slot_at x k)) (Put n (slot_at x k)) (λ c. tt)) hy.copies refl
+        (collects (g.collecting live_r) _ _ refl refl (g.collecting live_r).forgiven (counts_goes g.inv live_r (g.collecting live_r).counts i ip (Read n (slot_at x k)) (look_ahead v (ToPut n (slot_at x k)) (Put n (slot_at x k))) pe (not_idle (Read n (slot_at x k)) tt) (ahead_left v (ToPut n (slot_at x k)) (Put n (slot_at x k)) (λ c. refl)) (ahead_free v (ToPut n (slot_at x k)) (Put n (slot_at x k)) (λ c y h. h))))
 
-    pub read_comes : Comes l w hy t ws i (at_place g.pa g.ra (Read n x k)) X (settle t i (read_of t.marks ws t.limits.s n (at_primary g.pa x) k))
+    pub read_comes : Comes l w hy t ws i (at_place g.pa g.ra (Read n (slot_at x k))) X (settle t i (read_of t.marks ws t.limits.s n (at_primary g.pa x) k))
     unfolding read_of settle_of
     read_comes =
         rw (
@@ -113,17 +113,17 @@ module _ {l : Limits} {w : Store} {hy : History} {t : Table} {ws : List ℕ} (g 
         (on (ltb k (g.objects.shape.ptr x.0)) refl)
       where
         on : (b : Bool) → ltb k (g.objects.shape.ptr x.0) ≡ b
-            → Comes l w hy t ws i (at_place g.pa g.ra (Read n x k)) X
+            → Comes l w hy t ws i (at_place g.pa g.ra (Read n (slot_at x k))) X
             (settle t i
             (pick b
             (acted
             (Goes t.marks
-            (look_ahead (Pointer (primary (pick b (g.pa (g.objects.prim x.0 k)) (g.objects.prim x.0 k)))) (ToPut n (at_primary g.pa x) k)
-            (Put n (at_primary g.pa x) k)))
+            (look_ahead (Pointer (primary (pick b (g.pa (g.objects.prim x.0 k)) (g.objects.prim x.0 k)))) (ToPut n (slot_at (at_primary g.pa x) k))
+            (Put n (slot_at (at_primary g.pa x) k))))
             ws)
             (acted
             (Goes t.marks
-            (look_ahead (Plain (pick b (g.pa (g.objects.prim x.0 k)) (g.objects.prim x.0 k))) (ToPut n (at_primary g.pa x) k) (Put n (at_primary g.pa x) k)))
+            (look_ahead (Plain (pick b (g.pa (g.objects.prim x.0 k)) (g.objects.prim x.0 k))) (ToPut n (slot_at (at_primary g.pa x) k)) (Put n (slot_at (at_primary g.pa x) k))))
             ws)))
         on true e =
             goes_on (Pointer (primary (g.objects.prim x.0 k)))
@@ -132,20 +132,20 @@ module _ {l : Limits} {w : Store} {hy : History} {t : Table} {ws : List ℕ} (g 
         on false e = goes_on (Plain (g.objects.prim x.0 k)) tt (rw e at (reads g.objects i n x k g.inv ip pe))
 
   -- into the replica
-  pub put_comes : (c : Copied) → (g.objects.tasks i).place ≡ Put n x k c
-      → Comes l w hy t ws i (at_place g.pa g.ra (Put n x k c)) X (settle t i (put_of t.marks ws t.limits.s n (at_primary g.pa x) k (at_copied g.ra c)))
+  pub put_comes : (c : Operand Replica) → (g.objects.tasks i).place ≡ Put n (slot_at x k) c
+      → Comes l w hy t ws i (at_place g.pa g.ra (Put n (slot_at x k) c)) X (settle t i (put_of t.marks ws t.limits.s n (at_primary g.pa x) k (at_copied g.ra c)))
   unfolding put_of settle_of happen_all holding_of
   put_comes c pe =
-      let h = at_place_lem g.inv i (Put n x k c) pe in
+      let h = at_place_lem g.inv i (Put n (slot_at x k) c) pe in
       rw (
         look_placed g.inv g.agree x.0 (held h.0 h.2) (placed h.0 h.2),
         lt-leb (g.objects.shape.len x.0) k (short h.0 h.2),
         copied_word_lem g.ra c k (g.objects.shape.ptr x.0) h.3,
       )
-      (comes_moved g i (below g i ip) (at_place g.pa g.ra (Put n x k c)) X g.kept g.pa g.ra
-      (copies g.objects x.0 k (copied_word c) i (goes (g.objects.tasks i) (Release n x k))) h.0 _ _ _ (goes (g.objects.tasks i) (Release n x k)) _
-      (moved_goes g i ip t.marks (Release n x k)) (puts g.objects i n x k c g.inv ip pe)
-      (copies_agree g.inv g.agree i ip (goes (g.objects.tasks i) (Release n x k)) (rw pe refl) x.0 (held h.0 h.2) k (copied_word c) (placed h.0 h.2)
+      (comes_moved g i (below g i ip) (at_place g.pa g.ra (Put n (slot_at x k) c)) X g.kept g.pa g.ra
+      (copies g.objects x.0 k (copied_word c) i (goes (g.objects.tasks i) (Release n (slot_at x k)))) h.0 _ _ _ (goes (g.objects.tasks i) (Release n (slot_at x k))) _
+      (moved_goes g i ip t.marks (Release n (slot_at x k))) (puts g.objects i n x k c g.inv ip pe)
+      (copies_agree g.inv g.agree i ip (goes (g.objects.tasks i) (Release n (slot_at x k))) (rw pe refl) x.0 (held h.0 h.2) k (copied_word c) (placed h.0 h.2)
       (short h.0 h.2))
-      (still_goes g.still i (below g i ip) (Release n x k) (busy_at g i ip (Put n x k c) pe tt)) ip tt hy.copies refl
-      (collects (g.collecting h.0) _ _ refl refl (g.collecting h.0).forgiven (counts_goes g.inv h.0 (g.collecting h.0).counts i ip (Put n x k c) (Release n x k) pe (not_idle (Put n x k c) tt) refl (λ y h. h))))
+      (still_goes g.still i (below g i ip) (Release n (slot_at x k)) (busy_at g i ip (Put n (slot_at x k) c) pe tt)) ip tt hy.copies refl
+      (collects (g.collecting h.0) _ _ refl refl (g.collecting h.0).forgiven (counts_goes g.inv h.0 (g.collecting h.0).counts i ip (Put n (slot_at x k) c) (Release n (slot_at x k)) pe (not_idle (Put n (slot_at x k) c) tt) refl (λ y h. h))))

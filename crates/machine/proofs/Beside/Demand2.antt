@@ -1,6 +1,6 @@
 -- Demand 2, from the runs in which table and store stand side by side.
 use Rattle.std.specs.Prelude.{ℕ, ◌≡◌, ◌≢◌, List, true, length}
-use Rattle.std.proofs.Common.{sym, ◌∙◌, inl, inr, arith}
+use Rattle.std.proofs.Common.{sym, ◌∙◌, inl, inr}
 use Rattle.table.specs.declared.Limits.{Limits}
 use Rattle.table.specs.declared.Table.{Table}
 use Rattle.table.specs.declared.Refusal.TheVariants.{Exhausted, Damaged}
@@ -18,37 +18,16 @@ use Rattle.machine.proofs.Beside.Start.{fresh_good}
 use Rattle.machine.proofs.Beside.Calls.{load_answers, same_answers}
 use Rattle.machine.specs.Beside.Run.{Living, Spends}
 use Rattle.machine.proofs.Beside.Run.{Well, Proceeds, proceeds, good_run}
+use Rattle.machine.proofs.Objects.Base.{clash}
 
 -- 10 and 11 are not well
 not_damaged : (c : Call) (t : Table) (x : Answer) → Well c t x → x ≢ No Damaged
 not_damaged (Call.New task r len m) t x u e = rw e at u
-not_damaged (Call.Fill task w) t x u e = rw e at u
-not_damaged (Call.FillPointer task r) t x u e = rw e at u
-not_damaged (Call.Load task to from slot) t x u e = rw e at u
-not_damaged (Call.Store task o slot w) t x u e = rw e at u
-not_damaged (Call.StorePointer task o slot r) t x u e = rw e at u
-not_damaged (Call.Move task to from) t x u e = rw e at u
-not_damaged (Call.Clear task r) t x u e = rw e at u
-not_damaged (Call.Same task a b) t x u e = rw e at u
-not_damaged (Call.Put task root r) t x u e = rw e at u
-not_damaged (Call.Get task r root) t x u e = rw e at u
-not_damaged (Call.Step task) t x u e = rw e at u
-not_damaged Call.Report t x u e = rw e at u
+not_damaged _ t x u e = rw e at u
 
 pub not_spent : (c : Call) (t : Table) (x : Answer) → Well c t x → x ≢ No Exhausted
 not_spent (Call.New task r len m) t x u e = rw e at u
-not_spent (Call.Fill task w) t x u e = rw e at u
-not_spent (Call.FillPointer task r) t x u e = rw e at u
-not_spent (Call.Load task to from slot) t x u e = rw e at u
-not_spent (Call.Store task o slot w) t x u e = rw e at u
-not_spent (Call.StorePointer task o slot r) t x u e = rw e at u
-not_spent (Call.Move task to from) t x u e = rw e at u
-not_spent (Call.Clear task r) t x u e = rw e at u
-not_spent (Call.Same task a b) t x u e = rw e at u
-not_spent (Call.Put task root r) t x u e = rw e at u
-not_spent (Call.Get task r root) t x u e = rw e at u
-not_spent (Call.Step task) t x u e = rw e at u
-not_spent Call.Report t x u e = rw e at u
+not_spent _ t x u e = rw e at u
 
 module _ (t : Table) (l : Limits) (ws : List ℕ) (accepted : sizes_ok l (length ws) ≡ true) where
   pub set_up_good : Good l empty_store no_history (setup_of t l ws).out.table (setup_of t l ws).words
@@ -71,7 +50,7 @@ module _ (t : Table) (l : Limits) (ws : List ℕ) (accepted : sizes_ok l (length
     undamaged c = on (proceeds l (beside cs (setup_of t l ws) empty_store) (history_of cs (setup_of t l ws) no_history) c (run cs (setup_of t l ws)) good_after)
       where
         on : Proceeds l (beside cs (setup_of t l ws) empty_store) (history_of cs (setup_of t l ws) no_history) c (run cs (setup_of t l ws)) → (then c (run cs (setup_of t l ws))).out.answer ≢ No Damaged
-        on (inl h) = λ e. let q : No Exhausted ≡ No Damaged = sym h.0 ∙ e in let z : ◌≡◌ {A = ℕ} 0 1 = cc in absurd (omega arith)
+        on (inl h) = λ e. let q : No Exhausted ≡ No Damaged = sym h.0 ∙ e in clash cc
         on (inr h) = not_damaged c (run cs (setup_of t l ws)).out.table (then c (run cs (setup_of t l ws))).out.answer h.1
 
     pub spent_for_room : (c : Call) → (then c (run cs (setup_of t l ws))).out.answer ≡ No Exhausted

@@ -42,20 +42,9 @@ exact_off g off = (g.collected (sym g.agree.on ∙ off)).0
 
 -- a call that is no flip keeps what the flip found
 one_history : (c : Call) (e : Ends) (h : History) → is_flip e.out.table.on (then c e).out.table.on ≡ false → history_after c e (then c e) h ≡ with_copies h (copied c e (then c e) h.copies)
-one_history (Call.New task r len m) e h q = refl
-one_history (Call.Fill task w) e h q = refl
-one_history (Call.FillPointer task r) e h q = refl
-one_history (Call.Load task to from slot) e h q = refl
-one_history (Call.Store task o slot w) e h q = refl
-one_history (Call.StorePointer task o slot r) e h q = refl
-one_history (Call.Move task to from) e h q = refl
-one_history (Call.Clear task r) e h q = refl
-one_history (Call.Same task a b) e h q = refl
-one_history (Call.Put task root r) e h q = refl
-one_history (Call.Get task r root) e h q = refl
 one_history (Call.Step task) e h q =
     ap (λ (b : Bool). pick b (flip_history e.out.table e.words) (with_copies h (copied (Call.Step task) e (then (Call.Step task) e) h.copies))) q
-one_history Call.Report e h q = refl
+one_history _ e h q = refl
 
 pub history_between : (cs : List Call) (e : Ends) (h : History) → NoFlip cs e → history_of cs e h ≡ with_copies h (copies_of cs e h.copies)
 unfolding history_of copies_of

@@ -1,11 +1,10 @@
 -- An instruction that ends with no change but its end: a payment that finds nothing grey, a New refused for want of room.
-use Rattle.std.specs.Prelude.{ℕ, ◌<◌, ◌≡◌, refl, List, [], ◌∷◌, Bool, true}
+use Rattle.std.specs.Prelude.{ℕ, ◌<◌, ◌≡◌, refl, List, [], ◌∷◌, Bool, true, Option, Some, None}
 use Rattle.std.proofs.Common.{ap, sym, ◌∙◌, arith}
 use Rattle.table.specs.declared.Limits.{Limits}
 use Rattle.table.specs.declared.Primary.{Primary}
 use Rattle.table.specs.declared.Marks.{Marks}
-use Rattle.table.specs.declared.Pending.{Pending}
-use Rattle.table.specs.declared.Pending.TheVariants.{Nothing, Making}
+use Rattle.table.specs.declared.Making.{Making}
 use Rattle.table.specs.declared.Place.{Place}
 use Rattle.table.specs.declared.Table.{Table}
 use Rattle.table.specs.declared.Answer.{Answer}
@@ -30,20 +29,20 @@ use Rattle.machine.proofs.Beside.Finish.{finishes}
 use Rattle.machine.proofs.Beside.StepChanges.{ended_place}
 
 -- an idle task has no job
-pub ended_jobs : (regs : List Primary) (d : Pending) → jobs_in (holding_of (ended_entry regs d).place) ≡ 0
+pub ended_jobs : (regs : List Primary) (d : Option Making) → jobs_in (holding_of (ended_entry regs d).place) ≡ 0
 unfolding holding_of
 ended_jobs regs d = rw (ended_place regs d) refl
 
-pub filling : (K : ℕ → Type 0) (sh : Shape) (hd : ℕ → Hd) (on : Bool) (d : Pending) → PendingOk K sh hd on d → Filling sh d
-filling K sh hd on Nothing o = tt
-filling K sh hd on (Making x r len f) o = (o.0, o.2, o.3, o.4)
+pub filling : (K : ℕ → Type 0) (sh : Shape) (hd : ℕ → Hd) (on : Bool) (d : Option Making) → PendingOk K sh hd on d → Filling sh d
+filling K sh hd on None o = tt
+filling K sh hd on (Some d) o = (o.0, o.2, o.3, o.4)
 
 module _ {l : Limits} {w : Store} {hy : History} {t : Table} {ws : List ℕ} (g : Good l w hy t ws) (i : ℕ) (ip : i < t.limits.p) where
   -- the table of the end, whatever the marks
   pub ended_table_lem : (m : Marks) → ended_table t i m (task_at t i).pending
       ≡ entered t m i (at_task g.pa g.ra (ended_entry (g.objects.tasks i).regs (g.objects.tasks i).pending))
   ended_table_lem m =
-      ap (λ (d : Pending). ended_table t i m d) (ap (λ e. e.pending) (entry_of g i ip))
+      ap (λ (d : Option Making). ended_table t i m d) (ap (λ e. e.pending) (entry_of g i ip))
       ∙ entered_ended g.pa g.ra g.objects t i m (g.objects.tasks i).pending (entry_of g i ip)
 
   -- the store's task ends

@@ -8,7 +8,7 @@ use Rattle.table.specs.declared.Then.{Then}
 use Rattle.table.specs.declared.Place.TheVariants.{Idle, New, Placing}
 use Rattle.table.specs.declared.Table.{Table}
 use Rattle.machine.specs.Basics.{pick}
-use Rattle.machine.specs.Words.{end_of, room_of}
+use Rattle.machine.specs.Words.{end_of, room_of, wanted}
 use Rattle.machine.specs.History.{InCopies, History}
 use Rattle.machine.proofs.Objects.Base.{clash, upd, upd_all, sum_to}
 use Rattle.machine.proofs.Objects.State.{Hd, white, claimed, count, locked, State, IsSeen, Late}
@@ -143,12 +143,12 @@ module _ {K : ℕ → Type 0} {pa ra : ℕ → ℕ} {o : State} {t : Table} {ws 
       ))
 
   -- a New not yet claimed owes nothing: no object is pending, nothing is to be paid, and nothing is forgiven but to an idle task
-  pub new_owes_nothing : (i r len m : ℕ) → (o.tasks i).place ≡ New r len m → owing t.limits.k (c.forgiven i) (o.tasks i) ≡ 0
-  new_owes_nothing i r len m e = rw (e, (at_place_lem v i (New r len m) e).0) (omega (arith, on (dec_lt 0 (c.forgiven i))))
+  pub new_owes_nothing : (i r len m : ℕ) → (o.tasks i).place ≡ New (wanted r len m) → owing t.limits.k (c.forgiven i) (o.tasks i) ≡ 0
+  new_owes_nothing i r len m e = rw (e, (at_place_lem v i (New (wanted r len m)) e).0) (omega (arith, on (dec_lt 0 (c.forgiven i))))
     where
       on : Dec (0 < c.forgiven i) → c.forgiven i ≡ 0
       on (yes l) =
-          let q : New r len m ≡ Idle = sym e ∙ (c.counts.forgave i l).3 in
+          let q : New (wanted r len m) ≡ Idle = sym e ∙ (c.counts.forgave i l).3 in
           let z : ◌≡◌ {A = ℕ} 0 1 = cc in
           clash z
       on (no d) = omega (arith, d)
@@ -157,7 +157,7 @@ module _ {K : ℕ → Type 0} {pa ra : ℕ → ℕ} {o : State} {t : Table} {ws 
   module _
       (enough : h.words + 2 * (h.words / t.limits.k) + length h.live + 2 * (t.limits.p * (t.limits.s + 2)) ≤ t.limits.h) where
     -- a New not yet claimed finds room for its two blocks
-    pub new_room : (i r len m : ℕ) → (o.tasks i).place ≡ New r len m → i < t.limits.p → 2 * (len + 2) ≤ t.marks.top - t.marks.a - t.marks.j
+    pub new_room : (i r len m : ℕ) → (o.tasks i).place ≡ New (wanted r len m) → i < t.limits.p → 2 * (len + 2) ≤ t.marks.top - t.marks.a - t.marks.j
     unfolding end_of new
     new_room i r len m e l =
         omega (
@@ -167,7 +167,7 @@ module _ {K : ℕ → Type 0} {pa ra : ℕ → ℕ} {o : State} {t : Table} {ws 
           old_bound,
           greys_bound,
           k.marked.stack,
-          (at_place_lem v i (New r len m) e).3,
+          (at_place_lem v i (New (wanted r len m)) e).3,
           new_bound_but i l (new_owes_nothing i r len m e),
         )
 

@@ -21,6 +21,7 @@ use Rattle.machine.specs.Beside.Reasons.{TooFull, NoneLeft}
 use Rattle.machine.proofs.Beside.Reasons.{ends_early, flips_for_room, nine_for_room}
 use Rattle.machine.specs.Beside.HeldBegins.{Begins}
 use Rattle.machine.proofs.Beside.HeldBegins.{begun_free, seven_held}
+use Rattle.machine.specs.Words.{wanted}
 
 module _ (t₀ : Table) (l : Limits) (ws₀ : List ℕ) (accepted : sizes_ok l (length ws₀) ≡ true) (cs : List Call) (living : Living cs (setup_of t₀ l ws₀)) where
   -- the run so far
@@ -39,11 +40,11 @@ module _ (t₀ : Table) (l : Limits) (ws₀ : List ℕ) (accepted : sizes_ok l (
   ends_right = ends_early (good_after t₀ l ws₀ accepted cs living)
 
   -- 9 and a flip are for want of room
-  pub nine_right : (i r len m : ℕ) → t.on ≡ true → (task_at t i).place ≡ New r len m → (then (Call.Step i) after).out.answer ≡ No NoRoom
+  pub nine_right : (i r len m : ℕ) → t.on ≡ true → (task_at t i).place ≡ New (wanted r len m) → (then (Call.Step i) after).out.answer ≡ No NoRoom
       → TooFull t len
   nine_right i r len m = nine_for_room t after.words i r len m (good_after t₀ l ws₀ accepted cs living)
 
-  pub flip_right : (i r len m : ℕ) → t.on ≡ false → ((task_at t i).place ≡ New r len m) ⊎ ((task_at t i).place ≡ Asked r len m)
+  pub flip_right : (i r len m : ℕ) → t.on ≡ false → ((task_at t i).place ≡ New (wanted r len m)) ⊎ ((task_at t i).place ≡ Asked (wanted r len m))
       → (then (Call.Step i) after).out.answer ≡ Moved → NoneLeft t len
   flip_right i r len m = flips_for_room t after.words i r len m
 

@@ -1,16 +1,15 @@
 -- The steps of a Fill, collecting and off.
-use Rattle.std.specs.Prelude.{ℕ, suc, ◌+◌, ◌<◌, ◌≡◌, List, Bool, true, false, ltb, eqb}
+use Rattle.std.specs.Prelude.{ℕ, suc, ◌+◌, ◌<◌, ◌≡◌, List, Bool, true, false, ltb, eqb, Option}
 use Rattle.std.proofs.Math.Path.{refl}
 use Rattle.std.proofs.Common.{ap, sym, ◌∙◌, arith}
 use borrow.Author.Tests.{eqb-true, lt-leb}
 use Rattle.table.specs.declared.Limits.{Limits}
 use Rattle.table.specs.declared.Primary.{Primary}
+use Rattle.machine.specs.Entries.{pending_with}
+use Rattle.table.specs.declared.Making.{Making}
 use Rattle.table.specs.declared.Operand.{Operand}
+use Rattle.table.specs.declared.Replica.{Replica}
 use Rattle.table.specs.declared.Operand.TheVariants.{Plain, Pointer}
-use Rattle.table.specs.declared.Copied.{Copied}
-use Rattle.table.specs.declared.Copied.TheVariants.{Renamed}
-use Rattle.table.specs.declared.Pending.{Pending}
-use Rattle.table.specs.declared.Pending.TheVariants.{Making}
 use Rattle.table.specs.declared.Then.TheVariants.{ToFillCopy}
 use Rattle.table.specs.declared.Place.{Place}
 use Rattle.table.specs.declared.Place.TheVariants.{FillWrite, FillCopy, Take, Looking}
@@ -51,32 +50,32 @@ use Rattle.machine.proofs.Beside.Glue.{operand_word_lem, copied_word_lem, at_ahe
 use Rattle.machine.proofs.Beside.Finish.{finishes}
 use Rattle.machine.proofs.Beside.Ending.{ended_jobs}
 
-ahead_jobs : (v : Operand) → 0 ≡ jobs_in (holding_of (look_ahead v ToFillCopy FillCopy))
+ahead_jobs : (v : Operand Primary) → 0 ≡ jobs_in (holding_of (look_ahead v ToFillCopy FillCopy))
 unfolding holding_of
 ahead_jobs v = by_ahead (λ pl. 0 ≡ jobs_in (holding_of pl)) v ToFillCopy FillCopy (λ c. refl) (λ p. refl)
 
 -- the store knows the value, nil too
-ahead_doing : (e : Task) (d : Doing) (v : Operand) → d ≡ filling (operand_word v)
+ahead_doing : (e : Task) (d : Doing) (v : Operand Primary) → d ≡ filling (operand_word v)
     → DoingAt (goes e (look_ahead v ToFillCopy FillCopy)) d (look_ahead v ToFillCopy FillCopy)
 ahead_doing e d (Plain w) h = h
 ahead_doing e d (Pointer p) h = on (eqb p.0 0) refl
   where
-    on : (b : Bool) → eqb p.0 0 ≡ b → DoingAt (goes e (pick b (FillCopy (Renamed (replica 0))) (Looking p ToFillCopy))) d (pick b (FillCopy (Renamed (replica 0))) (Looking p ToFillCopy))
+    on : (b : Bool) → eqb p.0 0 ≡ b → DoingAt (goes e (pick b (FillCopy (Pointer (replica 0))) (Looking p ToFillCopy))) d (pick b (FillCopy (Pointer (replica 0))) (Looking p ToFillCopy))
     on true c = h ∙ ap filling (eqb-true p.0 0 c)
     on false c = h
 
-doing_of : (e : Task) (d : Doing) (v : Operand) (pl : Place) → pl ≡ FillWrite v → DoingAt e d pl → d ≡ filling (operand_word v)
+doing_of : (e : Task) (d : Doing) (v : Operand Primary) (pl : Place) → pl ≡ FillWrite v → DoingAt e d pl → d ≡ filling (operand_word v)
 doing_of e d v pl pe h = rw pe at h
 
-copy_doing : (e : Task) (d : Doing) (c : Copied) (pl : Place) → pl ≡ FillCopy c → DoingAt e d pl → d ≡ filling (copied_word c)
+copy_doing : (e : Task) (d : Doing) (c : Operand Replica) (pl : Place) → pl ≡ FillCopy c → DoingAt e d pl → d ≡ filling (copied_word c)
 copy_doing e d c pl pe h = rw pe at h
 
-goes_to_lem : {x : Primary} {r len f q : ℕ} (d : Pending) → d ≡ Making x r len f → GoesTo d q → q ≡ r
+goes_to_lem : {x : Primary} {r len f q : ℕ} (d : Option Making) → d ≡ pending_with x r len f → GoesTo d q → q ≡ r
 goes_to_lem d e h = rw e at h
 
 module _ {l : Limits} {w : Store} {hy : History} {t : Table} {ws : List ℕ} (g : Good l w hy t ws) (i : ℕ) (ip : i < t.limits.p) (X : Type 0) (x : Primary) (r len f : ℕ)
-    (me : (g.objects.tasks i).pending ≡ Making x r len f) where
-  made : PendingOk g.kept g.objects.shape g.objects.hd g.objects.on (Making x r len f)
+    (me : (g.objects.tasks i).pending ≡ pending_with x r len f) where
+  made : PendingOk g.kept g.objects.shape g.objects.hd g.objects.on (pending_with x r len f)
   made = rw me at (g.inv.entries i).pending
 
   held : Held g.kept g.objects.shape x.0
@@ -92,8 +91,8 @@ module _ {l : Limits} {w : Store} {hy : History} {t : Table} {ws : List ℕ} (g 
   pending_is_lem : (owner_at w i).pending ≡ x.0
   pending_is_lem = (g.still.tasks i (below g i ip)).pending ∙ ap pending_is me
 
-  module _ (v : Operand) (pe : (g.objects.tasks i).place ≡ FillWrite v) where
-    place : OfPending (Making x r len f) (λ x. (g.objects.shape.fill x < g.objects.shape.len x) × (is_pointer v ≡ ltb (g.objects.shape.fill x) (g.objects.shape.ptr x)))
+  module _ (v : Operand Primary) (pe : (g.objects.tasks i).place ≡ FillWrite v) where
+    place : OfPending (pending_with x r len f) (λ x. (g.objects.shape.fill x < g.objects.shape.len x) × (is_pointer v ≡ ltb (g.objects.shape.fill x) (g.objects.shape.ptr x)))
         × SoundOperand g.kept g.objects.shape v
     place = let h = at_place_lem g.inv i (FillWrite v) pe in (rw me at h.1, h.2)
 
@@ -103,7 +102,7 @@ module _ {l : Limits} {w : Store} {hy : History} {t : Table} {ws : List ℕ} (g 
     -- collecting: the primary's slot
     pub fill_write_comes : g.objects.on ≡ true
         → Comes l w hy t ws i (at_place g.pa g.ra (FillWrite v)) X
-        (settle t i (fill_write_of true t.marks ws t.limits.s (Making (at_primary g.pa x) r len f) (at_operand g.pa v)))
+        (settle t i (fill_write_of true t.marks ws t.limits.s (pending_with (at_primary g.pa x) r len f) (at_operand g.pa v)))
     unfolding fill_write_of settle_of happen_all holding_of
     fill_write_comes on =
         rw (
@@ -138,7 +137,7 @@ module _ {l : Limits} {w : Store} {hy : History} {t : Table} {ws : List ℕ} (g 
     -- off: the slot counts, and the Fill ends
     pub fill_off_comes : g.objects.on ≡ false
         → Comes l w hy t ws i (at_place g.pa g.ra (FillWrite v)) X
-        (settle t i (fill_write_of false t.marks ws t.limits.s (Making (at_primary g.pa x) r len f) (at_operand g.pa v)))
+        (settle t i (fill_write_of false t.marks ws t.limits.s (pending_with (at_primary g.pa x) r len f) (at_operand g.pa v)))
     unfolding fill_write_of settle_of happen_all holding_of filled_store
     fill_off_comes off =
         rw (
@@ -147,20 +146,20 @@ module _ {l : Limits} {w : Store} {hy : History} {t : Table} {ws : List ℕ} (g 
           operand_word_lem g.pa v f (g.objects.shape.ptr x.0) (rw at_fill place.0.1),
         )
         (finishes g i (at_place g.pa g.ra (FillWrite v)) X g.kept g.pa g.ra
-        (fills_off g.objects x.0 (operand_word v) i (ended_entry (g.objects.tasks i).regs (Making x r len (f + 1)))) _ t.marks
-        (Making (at_primary g.pa x) r len (f + 1)) Done
+        (fills_off g.objects x.0 (operand_word v) i (ended_entry (g.objects.tasks i).regs (pending_with x r len (f + 1)))) _ t.marks
+        (pending_with (at_primary g.pa x) r len (f + 1)) Done
         (with_owner filled_store i (ends_owner (owner_at w i) (thing_at filled_store (owner_at w i).pending))) tt (λ after. rw (doing, pending_is_lem) refl)
         (fill_off g.inv i ip x r len f me off v pe)
-        (rw (entered_ended g.pa g.ra g.objects t i t.marks (Making x r len (f + 1)) (entry_of g i ip), at_fill)
-        (fills_off_agree g.inv g.agree i ip (ended_entry (g.objects.tasks i).regs (Making x r len (g.objects.shape.fill x.0 + 1)))
-        (rw (pe, ended_jobs (g.objects.tasks i).regs (Making x r len (g.objects.shape.fill x.0 + 1))) refl) x.0 held (operand_word v) place.0.0))
+        (rw (entered_ended g.pa g.ra g.objects t i t.marks (pending_with x r len (f + 1)) (entry_of g i ip), at_fill)
+        (fills_off_agree g.inv g.agree i ip (ended_entry (g.objects.tasks i).regs (pending_with x r len (g.objects.shape.fill x.0 + 1)))
+        (rw (pe, ended_jobs (g.objects.tasks i).regs (pending_with x r len (g.objects.shape.fill x.0 + 1))) refl) x.0 held (operand_word v) place.0.0))
         g.home still hy.copies refl (λ f. off_on (sym off ∙ f)) g.collected)
       where
         q : StillTask (g.objects.tasks i) (owner_at w i)
         q = g.still.tasks i (below g i ip)
 
         still : Still (filled_one (wrote_one g.objects.shape x.0) x.0) (slot g.objects.prim x.0 (g.objects.shape.fill x.0) (operand_word v))
-            (upd g.objects.tasks i (ended_entry (g.objects.tasks i).regs (Making x r len (f + 1)))) g.objects.roots
+            (upd g.objects.tasks i (ended_entry (g.objects.tasks i).regs (pending_with x r len (f + 1)))) g.objects.roots
             (with_owner (with_thing w x.0 (fills_thing (thing_at w x.0) (operand_word v))) i
             (ends_owner (owner_at w i) (thing_at (with_thing w x.0 (fills_thing (thing_at w x.0) (operand_word v))) (owner_at w i).pending)))
         still =
@@ -168,13 +167,13 @@ module _ {l : Limits} {w : Store} {hy : History} {t : Table} {ws : List ℕ} (g 
             (still_filled (slot g.objects.prim x.0 (g.objects.shape.fill x.0) (operand_word v)) (upd g.objects.shape.wrote x.0 (suc (g.objects.shape.fill x.0)))
             g.still x.0 (operand_word v) made.0 made.2 (slot_same g.objects.prim x.0 (g.objects.shape.fill x.0) (operand_word v))
             (λ y j l. slot_other g.objects.prim x.0 (g.objects.shape.fill x.0) (operand_word v) y j (λ e. unfilled y j l e)))
-            i (below g i ip) (g.objects.tasks i).regs (Making x r len (f + 1)) q.regs pending_is_lem (goes_to_lem (g.objects.tasks i).pending me q.goes_to)
+            i (below g i ip) (g.objects.tasks i).regs (pending_with x r len (f + 1)) q.regs pending_is_lem (goes_to_lem (g.objects.tasks i).pending me q.goes_to)
             (made.0, made.2, made.3, rw (upd_same g.objects.shape.fill x.0 (suc (g.objects.shape.fill x.0))) (omega (arith, at_fill)))
 
   -- collecting: the replica's slot, and the slot counts
-  pub fill_copy_comes : (c : Copied) → (g.objects.tasks i).place ≡ FillCopy c
+  pub fill_copy_comes : (c : Operand Replica) → (g.objects.tasks i).place ≡ FillCopy c
       → Comes l w hy t ws i (at_place g.pa g.ra (FillCopy c)) X
-      (settle t i (fill_copy_of t.marks ws t.limits.s t.limits.k (Making (at_primary g.pa x) r len f) (at_copied g.ra c)))
+      (settle t i (fill_copy_of t.marks ws t.limits.s t.limits.k (pending_with (at_primary g.pa x) r len f) (at_copied g.ra c)))
   unfolding fill_copy_of settle_of happen_all holding_of
   fill_copy_comes c pe =
       rw (
@@ -183,17 +182,17 @@ module _ {l : Limits} {w : Store} {hy : History} {t : Table} {ws : List ℕ} (g 
         copied_word_lem g.ra c f (g.objects.shape.ptr x.0) (rw at_fill place.1.3),
       )
       (comes_moved g i (below g i ip) (at_place g.pa g.ra (FillCopy c)) X g.kept g.pa g.ra
-      (fills_copy g.objects x.0 (copied_word c) i (goes_with (g.objects.tasks i) (Making x r len (f + 1)) (Take t.limits.k))) place.0 _ _ _
-      (goes_with (g.objects.tasks i) (Making x r len (f + 1)) (Take t.limits.k)) _
-      (entered_moved g.pa g.ra g.objects t i t.marks (Making x r len (f + 1)) (Take t.limits.k) (entry_of g i ip))
+      (fills_copy g.objects x.0 (copied_word c) i (goes_with (g.objects.tasks i) (pending_with x r len (f + 1)) (Take t.limits.k))) place.0 _ _ _
+      (goes_with (g.objects.tasks i) (pending_with x r len (f + 1)) (Take t.limits.k)) _
+      (entered_moved g.pa g.ra g.objects t i t.marks (pending_with x r len (f + 1)) (Take t.limits.k) (entry_of g i ip))
       (fill_copies g.inv i ip x r len f me c pe t.limits.k g.agree.sized.limited.k_low)
       (rw at_fill
-      (fills_agree g.inv g.agree i ip (goes_with (g.objects.tasks i) (Making x r len (g.objects.shape.fill x.0 + 1)) (Take t.limits.k)) (rw pe refl) x.0 held
+      (fills_agree g.inv g.agree i ip (goes_with (g.objects.tasks i) (pending_with x r len (g.objects.shape.fill x.0 + 1)) (Take t.limits.k)) (rw pe refl) x.0 held
       (copied_word c) (made.6 place.0) place.1.0))
       (rw (doing, pending_is_lem)
       (still_entry
       (still_filled g.objects.prim g.objects.shape.wrote g.still x.0 (copied_word c) made.0 made.2 place.1.2 (λ y j l. refl))
-      i (below g i ip) (goes_with (g.objects.tasks i) (Making x r len (f + 1)) (Take t.limits.k))
+      i (below g i ip) (goes_with (g.objects.tasks i) (pending_with x r len (f + 1)) (Take t.limits.k))
       (record {
         regs = q.regs;
         pending = pending_is_lem;
@@ -212,7 +211,7 @@ module _ {l : Limits} {w : Store} {hy : History} {t : Table} {ws : List ℕ} (g 
       q = g.still.tasks i (below g i ip)
 
       place : (g.objects.on ≡ true)
-          × OfPending (Making x r len f)
+          × OfPending (pending_with x r len f)
           (λ x. (g.objects.shape.fill x < g.objects.shape.len x) × (g.objects.shape.wrote x ≡ suc (g.objects.shape.fill x))
           × (g.objects.prim x (g.objects.shape.fill x) ≡ copied_word c) × (is_renamed c ≡ ltb (g.objects.shape.fill x) (g.objects.shape.ptr x)))
       place = let h = at_place_lem g.inv i (FillCopy c) pe in (h.0, rw me at h.1.1)

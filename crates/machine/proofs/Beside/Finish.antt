@@ -1,12 +1,12 @@
 -- The end of an instruction, with the switch-over where it is due.
-use Rattle.std.specs.Prelude.{ℕ, ◌≤◌, ◌≡◌, List, Bool, length}
+use Rattle.std.specs.Prelude.{ℕ, ◌≤◌, ◌≡◌, List, Bool, length, Option}
 use Rattle.std.proofs.Math.Path.{refl, sym}
 use Rattle.std.proofs.Common.{◌∙◌}
 use Rattle.std.proofs.Math.Logic.{inr}
 use Rattle.std.proofs.Math.Bool.{true, false}
 use Rattle.table.specs.declared.Limits.{Limits}
 use Rattle.table.specs.declared.Marks.{Marks}
-use Rattle.table.specs.declared.Pending.{Pending}
+use Rattle.table.specs.declared.Making.{Making}
 use Rattle.table.specs.declared.Place.{Place}
 use Rattle.table.specs.declared.Table.{Table}
 use Rattle.table.specs.declared.Answer.{Answer}
@@ -58,7 +58,7 @@ still_switches o k = still_shape (switches o).shape o.prim k refl (λ x z m q. r
 
 module _ {l : Limits} {w : Store} {hy : History} {t : Table} {ws : List ℕ} (g : Good l w hy t ws) (i : ℕ) (before : Place) (X : Type 0) where
   -- the action left the objects o, the words ws' and the marks m; the store is w', and cs are the copies since the flip
-  pub finishes : (K : ℕ → Type 0) (pa ra : ℕ → ℕ) (o : State) (ws' : List ℕ) (m : Marks) (pending : Pending) (x : Answer) (w' : Store) → Fine t before x
+  pub finishes : (K : ℕ → Type 0) (pa ra : ℕ → ℕ) (o : State) (ws' : List ℕ) (m : Marks) (pending : Option Making) (x : Answer) (w' : Store) → Fine t before x
       → ((after : Place) → happen_all w i (step_kinds x before after) ≡ w') → Inv K t.limits.p t.limits.s o → Agree K pa ra o (ended_table t i m pending) ws'
       → (o.on ≡ false → Home K pa o.shape (bottom t) m.a) → Still o.shape o.prim o.tasks o.roots w'
       → (cs : List Copy) → with_copy before x hy.copies ≡ cs → (o.on ≡ true → Collecting K pa o (ended_table t i m pending) (with_copies hy cs))

@@ -1,10 +1,9 @@
 -- A flip with room for all that is live, its words and one word more for each, is not out of room.
-use Rattle.std.specs.Prelude.{ℕ, ◌+◌, ◌≤◌, ◌<◌, ◌≡◌, ◌≢◌, ◌⊎◌, List, [], ◌∷◌, ◌++◌, false, length}
+use Rattle.std.specs.Prelude.{ℕ, ◌+◌, ◌≤◌, ◌<◌, ◌≡◌, ◌≢◌, ◌⊎◌, List, [], ◌∷◌, ◌++◌, false, length, Err}
 use Rattle.std.proofs.Math.Path.{refl}
 use Rattle.std.proofs.Common.{sym}
 use Rattle.std.proofs.Math.Logic.{inl, inr}
 use Rattle.table.specs.declared.Table.{Table}
-use Rattle.table.specs.declared.Pass.TheVariants.{Stopped}
 use Rattle.machine.specs.Numbers.{refusal}
 use Rattle.machine.specs.Flip.{passes_of}
 use Rattle.machine.specs.Live.Live.{gather, live_of, size_of}
@@ -103,7 +102,7 @@ module _ (o : State) (p : ℕ) where
 -- what the flip visits is live: its words are at most those of the live objects, its number at most theirs
 pub flip_fits_live : {K : ℕ → Type 0} {pa ra : ℕ → ℕ} {o : State} {t : Table} {ws : List ℕ} → Inv K t.limits.p t.limits.s o → Agree K pa ra o t ws
     → o.on ≡ false → ((u : ℕ) → Restful (o.tasks u).place) → Home K pa o.shape (bottom t) t.marks.a
-    → size_of t ws + length (live_of t ws) ≤ t.limits.h → (passes_of t ws).pass ≢ Stopped (refusal 10)
+    → size_of t ws + length (live_of t ws) ≤ t.limits.h → (passes_of t ws).pass ≢ Err (refusal 10)
 flip_fits_live {o = o} {t = t} v k off rest home room =
     let only = coming_comes o t.limits.p in
     let all = comes_coming o t.limits.p v in

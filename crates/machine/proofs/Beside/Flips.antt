@@ -1,5 +1,5 @@
 -- A New that finds no room while off: it asks for a flip, or makes it.
-use Rattle.std.specs.Prelude.{ℕ, ◌+◌, ◌-◌, ◌<◌, ◌≡◌, ◌⊎◌, List, [], ◌∷◌, Bool, true, leb}
+use Rattle.std.specs.Prelude.{ℕ, ◌+◌, ◌-◌, ◌<◌, ◌≡◌, ◌⊎◌, List, [], ◌∷◌, Bool, true, leb, Option, Some, None, Result, Ok, Err}
 use Rattle.std.proofs.Math.Path.{refl, ap}
 use Rattle.std.proofs.Common.{sym, ◌∙◌, inl, arith, leb-true}
 use Rattle.std.proofs.Math.Logic.{inr}
@@ -7,20 +7,18 @@ use Rattle.std.proofs.Math.Bool.{false}
 use Rattle.std.proofs.Math.Decide.{ℕ_discrete}
 use Rattle.table.specs.declared.Limits.{Limits}
 use Rattle.table.specs.declared.Place.{Place}
-use Rattle.table.specs.declared.Place.TheVariants.{Idle, New, Asked, FillWrite, FillCopy, StoreWrite, Meet, StoreCopy, Take, Read, Put, Release, Looking, Placing}
-use Rattle.table.specs.declared.Pass.{Pass}
-use Rattle.table.specs.declared.Pass.TheVariants.{On, Stopped}
+use Rattle.table.specs.declared.Place.TheVariants.{Idle, New, Asked}
+use Rattle.table.specs.declared.Marks.{Marks}
+use Rattle.table.specs.declared.Refusal.{Refusal}
 use Rattle.table.specs.declared.Refusal.TheVariants.{Exhausted}
 use Rattle.table.specs.declared.Sought.TheVariants.{Blocker}
-use Rattle.table.specs.declared.Found.{Found}
-use Rattle.table.specs.declared.Found.TheVariants.{At, Nobody}
 use Rattle.table.specs.declared.Answer.TheVariants.{Done, Moved, Wait, No}
 use Rattle.table.specs.declared.Task.{Task}
 use Rattle.table.specs.declared.Table.{Table}
 use Rattle.machine.specs.History.{History, with_copy, is_flip}
 use Rattle.machine.specs.Basics.{pick}
 use Rattle.machine.specs.Numbers.{refusal}
-use Rattle.machine.specs.Words.{descriptor, room_for, laid}
+use Rattle.machine.specs.Words.{descriptor, room_for, laid, wanted}
 use Rattle.machine.specs.Entries.{task_at, with_place, out, Ends, ends, refused}
 use Rattle.machine.specs.Switch.{finish_of}
 use Rattle.machine.specs.Flip.{passes_of, unasked, unasked_entry, flipped, flip_end, flip_of}
@@ -28,7 +26,7 @@ use Rattle.machine.specs.New.{claimed, made, ask_or, new_off_of}
 use Rattle.machine.specs.Tasks.{holding_of, idle_of, seek_of}
 use Rattle.machine.specs.StillStore.{Store, Made, Ended, Doing, making, owner_at, happen_all}
 use Rattle.machine.specs.Kinds.{done_kinds, moved_kinds}
-use Rattle.machine.proofs.Objects.Base.{off_on}
+use Rattle.machine.proofs.Objects.Base.{off_on, clash}
 use Rattle.machine.proofs.Objects.Inv.{NewOk}
 use Rattle.machine.proofs.Objects.Ops.{goes, moves, flips}
 use Rattle.machine.proofs.Objects.MoveLaws.{at_place_lem}
@@ -52,30 +50,20 @@ use Rattle.machine.proofs.Beside.News.{new_ok_lem, new_jobs, claims_off}
 unasked_doing : (e e' : Task) (d : Doing) (pl : Place) → e'.storing ≡ e.storing → Restful pl → DoingAt e d pl → DoingAt e' d (unasked pl)
 unfolding unasked
 unasked_doing e e' d Idle q r h = h
-unasked_doing e e' d (New a b c) q r h = h
-unasked_doing e e' d (Asked a b c) q r h = h
-unasked_doing e e' d (FillWrite v) q r h = absurd r
-unasked_doing e e' d (FillCopy c) q r h = absurd r
-unasked_doing e e' d (StoreWrite v) q r h = absurd r
-unasked_doing e e' d (Meet v) q r h = absurd r
-unasked_doing e e' d (StoreCopy c) q r h = absurd r
-unasked_doing e e' d (Take n) q r h = absurd r
-unasked_doing e e' d (Read n x i) q r h = absurd r
-unasked_doing e e' d (Put n x i c) q r h = absurd r
-unasked_doing e e' d (Release n x i) q r h = absurd r
-unasked_doing e e' d (Looking x th) q r h = absurd r
-unasked_doing e e' d (Placing x th) q r h = absurd r
+unasked_doing e e' d (New want) q r h = h
+unasked_doing e e' d (Asked want) q r h = h
+unasked_doing e e' d _ q r h = absurd r
 
-restful_new : (pl : Place) (r len m : ℕ) → (pl ≡ New r len m) ⊎ (pl ≡ Asked r len m) → Restful pl
+restful_new : (pl : Place) (r len m : ℕ) → (pl ≡ New (wanted r len m)) ⊎ (pl ≡ Asked (wanted r len m)) → Restful pl
 restful_new pl r len m (inl e) = rw e tt
 restful_new pl r len m (inr e) = rw e tt
 
-unasked_new : (pl : Place) (r len m : ℕ) → (pl ≡ New r len m) ⊎ (pl ≡ Asked r len m) → unasked pl ≡ New r len m
+unasked_new : (pl : Place) (r len m : ℕ) → (pl ≡ New (wanted r len m)) ⊎ (pl ≡ Asked (wanted r len m)) → unasked pl ≡ New (wanted r len m)
 unfolding unasked
 unasked_new pl r len m (inl e) = rw e refl
 unasked_new pl r len m (inr e) = rw e refl
 
-unasked_at : (e : Task) (r len m : ℕ) → (e.place ≡ New r len m) ⊎ (e.place ≡ Asked r len m) → (unasked_entry e).place ≡ New r len m
+unasked_at : (e : Task) (r len m : ℕ) → (e.place ≡ New (wanted r len m)) ⊎ (e.place ≡ Asked (wanted r len m)) → (unasked_entry e).place ≡ New (wanted r len m)
 unfolding unasked_entry
 unasked_at e r len m q = unasked_new e.place r len m q
 
@@ -84,57 +72,57 @@ answered : (t : Table) (ws : List ℕ) → flip_of t ws ≡ ends (refused t (ref
 unfolding flip_of
 answered t ws e = ap (λ (z : Ends). z.out.answer) e
 
-stopped : (t : Table) (ws : List ℕ) (x : Pass) → (flip_end t x).answer ≡ No Exhausted → x ≡ Stopped (refusal 10)
-stopped t ws (On m) e = let z : ◌≡◌ {A = ℕ} 0 1 = cc in absurd (omega arith)
-stopped t ws (Stopped y) e = let z : y ≡ Exhausted = cc in ap Stopped z
+stopped : (t : Table) (ws : List ℕ) (x : Result Marks Refusal) → (flip_end t x).answer ≡ No Exhausted → x ≡ Err (refusal 10)
+stopped t ws (Ok m) e = clash cc
+stopped t ws (Err y) e = let z : y ≡ Exhausted = cc in ap Err z
 
-new_busy : (pl : Place) (r len m : ℕ) → pl ≡ New r len m → idle_of (holding_of pl) ≡ false
+new_busy : (pl : Place) (r len m : ℕ) → pl ≡ New (wanted r len m) → idle_of (holding_of pl) ≡ false
 unfolding holding_of
 new_busy pl r len m e = rw e refl
 
 -- a place of a New, in the table
 abbrev pub Newly : Place → ℕ → ℕ → ℕ → Type 0
-Newly pl r len m = (pl ≡ New r len m) ⊎ (pl ≡ Asked r len m)
+Newly pl r len m = (pl ≡ New (wanted r len m)) ⊎ (pl ≡ Asked (wanted r len m))
 
 module _ {l : Limits} {w : Store} {hy : History} {t : Table} {ws : List ℕ} (g : Good l w hy t ws) (i : ℕ) (ip : i < t.limits.p) (r len m : ℕ)
     (pe : Newly (g.objects.tasks i).place r len m) (off : g.objects.on ≡ false) where
   -- another task stands in the way: the asking is recorded
-  asks_comes : (X : Type 0) (before : Place) (q : ℕ) → Comes l w hy t ws i before X (ends (out (with_place t i (Asked r len m)) (Wait q)) ws)
+  asks_comes : (X : Type 0) (before : Place) (q : ℕ) → Comes l w hy t ws i before X (ends (out (with_place t i (Asked (wanted r len m))) (Wait q)) ws)
   unfolding happen_all holding_of
   asks_comes X before q =
       inr (
         rw (
-          history_is t ws before (ends (out (with_place t i (Asked r len m)) (Wait q)) ws) hy hy.copies same_on (no_copy before (Wait q) hy.copies refl),
-          entered_place g.pa g.ra g.objects t i (Asked r len m) (entry_of g i ip),
+          history_is t ws before (ends (out (with_place t i (Asked (wanted r len m))) (Wait q)) ws) hy hy.copies same_on (no_copy before (Wait q) hy.copies refl),
+          entered_place g.pa g.ra g.objects t i (Asked (wanted r len m)) (entry_of g i ip),
         )
             (record {
               kept = g.kept;
               pa = g.pa;
               ra = g.ra;
-              objects = moves g.objects i (goes (g.objects.tasks i) (Asked r len m));
+              objects = moves g.objects i (goes (g.objects.tasks i) (Asked (wanted r len m)));
               limits = g.limits;
               long = g.long;
               inv = asks g.objects i r len m g.inv ip off pe;
               agree =
-                  moves_agree g.inv g.agree i ip (goes (g.objects.tasks i) (Asked r len m)) t.marks.j
+                  moves_agree g.inv g.agree i ip (goes (g.objects.tasks i) (Asked (wanted r len m))) t.marks.j
                   (rw (new_jobs (g.objects.tasks i).place r len m pe) refl) (omega arith);
               home = g.home;
               collecting = λ f. off_on (sym off ∙ f);
               awake = λ f. off_on (sym off ∙ f);
               collected = g.collected;
-              still = still_goes g.still i (below g i ip) (Asked r len m) (doing pe);
+              still = still_goes g.still i (below g i ip) (Asked (wanted r len m)) (doing pe);
             }),
         tt,
       )
     where
-      same_on : is_flip t.on (with_place t i (Asked r len m)).on ≡ false
-      same_on = off_stays t.on (with_place t i (Asked r len m)).on (ap (λ (u : Table). u.on) (entered_place g.pa g.ra g.objects t i (Asked r len m) (entry_of g i ip)) ∙ g.agree.on ∙ off)
+      same_on : is_flip t.on (with_place t i (Asked (wanted r len m))).on ≡ false
+      same_on = off_stays t.on (with_place t i (Asked (wanted r len m))).on (ap (λ (u : Table). u.on) (entered_place g.pa g.ra g.objects t i (Asked (wanted r len m)) (entry_of g i ip)) ∙ g.agree.on ∙ off)
 
       doing : Newly (g.objects.tasks i).place r len m → (owner_at w i).doing ≡ making r len m
       doing (inl e) = rw e at (g.still.tasks i (below g i ip)).doing
       doing (inr e) = rw e at (g.still.tasks i (below g i ip)).doing
 
-  module _ (none : seek_of t.tasks t.limits.p (Blocker i) ≡ Nobody) where
+  module _ (none : seek_of t.tasks t.limits.p (Blocker i) ≡ None) where
     resting : (u : ℕ) → Restful (g.objects.tasks u).place
     resting u = on (ℕ_discrete u i)
       where
@@ -163,7 +151,7 @@ module _ {l : Limits} {w : Store} {hy : History} {t : Table} {ws : List ℕ} (g 
         })
 
     -- the flip
-    flip_comes : (X : Type 0) (before : Place) → ((after : Place) → after ≡ New r len m → moved_kinds before after ≡ []) → ((passes_of t ws).pass ≡ Stopped (refusal 10) → X)
+    flip_comes : (X : Type 0) (before : Place) → ((after : Place) → after ≡ New (wanted r len m) → moved_kinds before after ≡ []) → ((passes_of t ws).pass ≡ Err (refusal 10) → X)
         → Comes l w hy t ws i before X (flip_of t ws)
     unfolding happen_all
     flip_comes X before kinds f = on (flip_words g.inv g.agree off (g.home off))
@@ -172,7 +160,7 @@ module _ {l : Limits} {w : Store} {hy : History} {t : Table} {ws : List ℕ} (g 
         on (inl e) = rw e (inl (refl, f (stopped t ws (passes_of t ws).pass (answered t ws e))))
         on (inr h) =
             let a = flip_agree h (Left g.kept g.objects h.visited) (λ x q. q.0) in
-            let q : (task_at (flipped t h.marks) i).place ≡ New r len m =
+            let q : (task_at (flipped t h.marks) i).place ≡ New (wanted r len m) =
             ap (λ (e : Task). e.place) (a.1.tasks i (below g i ip)) ∙ ap (λ (pl : Place). at_place g.pa h.ra pl) (unasked_at (g.objects.tasks i) r len m pe) in
             rw h.flip
             (inr (
@@ -203,8 +191,8 @@ module _ {l : Limits} {w : Store} {hy : History} {t : Table} {ws : List ℕ} (g 
             ))
 
   -- the step of a New while off
-  pub new_off_comes : (X : Type 0) (before : Place) → done_kinds before ≡ Made ∷ Ended ∷ [] → ((after : Place) → after ≡ New r len m → moved_kinds before after ≡ [])
-      → (seek_of t.tasks t.limits.p (Blocker i) ≡ Nobody → (passes_of t ws).pass ≡ Stopped (refusal 10) → X) → with_copy before Done hy.copies ≡ hy.copies
+  pub new_off_comes : (X : Type 0) (before : Place) → done_kinds before ≡ Made ∷ Ended ∷ [] → ((after : Place) → after ≡ New (wanted r len m) → moved_kinds before after ≡ [])
+      → (seek_of t.tasks t.limits.p (Blocker i) ≡ None → (passes_of t ws).pass ≡ Err (refusal 10) → X) → with_copy before Done hy.copies ≡ hy.copies
       → Comes l w hy t ws i before X (new_off_of t ws i r len m)
   unfolding new_off_of room_for
   new_off_comes X before dones kinds f quiet =
@@ -212,16 +200,16 @@ module _ {l : Limits} {w : Store} {hy : History} {t : Table} {ws : List ℕ} (g 
       rw (new_ok_lem t.limits.s r len m h.2 h.3 h.4) (on (leb (len + 2) (end t - t.marks.a)) refl)
     where
       asked_ok : Newly (g.objects.tasks i).place r len m → NewOk t.limits.s (g.objects.tasks i) r len m
-      asked_ok (inl e) = at_place_lem g.inv i (New r len m) e
-      asked_ok (inr e) = (at_place_lem g.inv i (Asked r len m) e).1
+      asked_ok (inl e) = at_place_lem g.inv i (New (wanted r len m)) e
+      asked_ok (inr e) = (at_place_lem g.inv i (Asked (wanted r len m)) e).1
 
-      ask : (x : Found) → seek_of t.tasks t.limits.p (Blocker i) ≡ x → Comes l w hy t ws i before X (ask_or t ws i (Asked r len m) x)
-      ask (At q) e = asks_comes X before q
-      ask Nobody e = flip_comes e X before kinds (f e)
+      ask : (x : Option ℕ) → seek_of t.tasks t.limits.p (Blocker i) ≡ x → Comes l w hy t ws i before X (ask_or t ws i (Asked (wanted r len m)) x)
+      ask (Some q) e = asks_comes X before q
+      ask None e = flip_comes e X before kinds (f e)
 
       on : (b : Bool) → leb (len + 2) (end t - t.marks.a) ≡ b
           → Comes l w hy t ws i before X
           (pick b (finish_of t (laid ws t.marks.a (descriptor len m) 0) i (claimed t.marks (len + 2)) (made t.marks r len) Done)
-          (ask_or t ws i (Asked r len m) (seek_of t.tasks t.limits.p (Blocker i))))
+          (ask_or t ws i (Asked (wanted r len m)) (seek_of t.tasks t.limits.p (Blocker i))))
       on true e = claims_off g i ip r len m X before (λ after. dones) quiet pe off (leb-true (len + 2) (end t - t.marks.a) e)
       on false e = ask (seek_of t.tasks t.limits.p (Blocker i)) refl

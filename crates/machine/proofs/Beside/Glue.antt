@@ -4,9 +4,9 @@ use Rattle.std.proofs.Common.{ap, sym, ◌∙◌}
 use Rattle.table.specs.declared.Limits.{Limits}
 use Rattle.table.specs.declared.Marks.{Marks}
 use Rattle.table.specs.declared.Operand.{Operand}
+use Rattle.table.specs.declared.Primary.{Primary}
+use Rattle.table.specs.declared.Replica.{Replica}
 use Rattle.table.specs.declared.Operand.TheVariants.{Plain, Pointer}
-use Rattle.table.specs.declared.Copied.{Copied}
-use Rattle.table.specs.declared.Copied.TheVariants.{Same, Renamed}
 use Rattle.table.specs.declared.Then.{Then}
 use Rattle.table.specs.declared.Place.{Place}
 use Rattle.table.specs.declared.Place.TheVariants.{Looking}
@@ -33,26 +33,26 @@ use Rattle.machine.proofs.Beside.Doing.{busy}
 use Rattle.machine.proofs.Beside.Good.{Good}
 
 -- the word of a value for slot j of an object with m pointer slots
-pub operand_word_lem : (pa : ℕ → ℕ) (v : Operand) (j m : ℕ) → is_pointer v ≡ ltb j m → operand_word (at_operand pa v) ≡ slot_word pa m j (operand_word v)
+pub operand_word_lem : (pa : ℕ → ℕ) (v : Operand Primary) (j m : ℕ) → is_pointer v ≡ ltb j m → operand_word (at_operand pa v) ≡ slot_word pa m j (operand_word v)
 operand_word_lem pa (Plain w) j m e = rw (← e) refl
 operand_word_lem pa (Pointer p) j m e = rw (← e) refl
 
-pub copied_word_lem : (ra : ℕ → ℕ) (c : Copied) (j m : ℕ) → is_renamed c ≡ ltb j m → copied_word (at_copied ra c) ≡ slot_word ra m j (copied_word c)
-copied_word_lem ra (Same w) j m e = rw (← e) refl
-copied_word_lem ra (Renamed r) j m e = rw (← e) refl
+pub copied_word_lem : (ra : ℕ → ℕ) (c : Operand Replica) (j m : ℕ) → is_renamed c ≡ ltb j m → copied_word (at_copied ra c) ≡ slot_word ra m j (copied_word c)
+copied_word_lem ra (Plain w) j m e = rw (← e) refl
+copied_word_lem ra (Pointer r) j m e = rw (← e) refl
 
 -- what follows a value that is known
 pub at_ahead : {K : ℕ → Type 0} {sh : Shape} {hd : ℕ → Hd} {pa ra : ℕ → ℕ} {base a end size : ℕ} → Lay K sh hd pa ra base a end size
-    → (v : Operand) → SoundOperand K sh v → (th : Then) (copy copy' : Copied → Place) → ((c : Copied) → copy' (at_copied ra c) ≡ at_place pa ra (copy c))
+    → (v : Operand Primary) → SoundOperand K sh v → (th : Then) (copy copy' : Operand Replica → Place) → ((c : Operand Replica) → copy' (at_copied ra c) ≡ at_place pa ra (copy c))
     → look_ahead (at_operand pa v) (at_then pa th) copy' ≡ at_place pa ra (look_ahead v th copy)
-at_ahead k (Plain w) s th copy copy' f = f (Same w)
+at_ahead k (Plain w) s th copy copy' f = f (Plain w)
 at_ahead {pa = pa} {ra = ra} k (Pointer p) s th copy copy' f = rw (pa_zero k p.0 s.0 s.1) (on (eqb p.0 0))
   where
-    nil : copy' (Renamed (replica 0)) ≡ at_place pa ra (copy (Renamed (replica 0)))
-    nil = ap (λ (z : ℕ). copy' (Renamed (replica z))) (sym k.nilr) ∙ f (Renamed (replica 0))
+    nil : copy' (Pointer (replica 0)) ≡ at_place pa ra (copy (Pointer (replica 0)))
+    nil = ap (λ (z : ℕ). copy' (Pointer (replica z))) (sym k.nilr) ∙ f (Pointer (replica 0))
 
-    on : (b : Bool) → pick b (copy' (Renamed (replica 0))) (Looking (record { 0 = pa p.0 }) (at_then pa th))
-        ≡ at_place pa ra (pick b (copy (Renamed (replica 0))) (Looking p th))
+    on : (b : Bool) → pick b (copy' (Pointer (replica 0))) (Looking (record { 0 = pa p.0 }) (at_then pa th))
+        ≡ at_place pa ra (pick b (copy (Pointer (replica 0))) (Looking p th))
     on true = nil
     on false = refl
 

@@ -1,10 +1,10 @@
 -- A table and its words that stand for objects, and the store beside them; and what a step must make of them.
-use Rattle.std.specs.Prelude.{ℕ, ◌+◌, ◌*◌, ◌≤◌, ◌<◌, ◌≡◌, refl, ◌⊎◌, List, true, false, length}
+use Rattle.std.specs.Prelude.{ℕ, ◌+◌, ◌*◌, ◌≤◌, ◌<◌, ◌≡◌, refl, ◌⊎◌, List, true, false, length, Option}
 use Rattle.std.proofs.Common.{sym, ◌∙◌, arith, get_or-set_same}
 use Rattle.std.proofs.Math.Logic.{inr}
 use Rattle.table.specs.declared.Limits.{Limits}
 use Rattle.table.specs.declared.Marks.{Marks}
-use Rattle.table.specs.declared.Pending.{Pending}
+use Rattle.table.specs.declared.Making.{Making}
 use Rattle.table.specs.declared.Place.{Place}
 use Rattle.table.specs.declared.Place.TheVariants.{Idle, New, Asked, FillWrite, FillCopy, StoreWrite, Meet, StoreCopy, Take, Read, Put, Release, Looking, Placing}
 use Rattle.table.specs.declared.Task.{Task}
@@ -67,17 +67,17 @@ Undamaged (No x) = Harmless (effect_of x)
 -- A refusal 9 is a New's that, while collecting, found less room than it needs for its two objects.
 abbrev pub Crowded : Table → Place → Type 0
 Crowded t Idle = ⊥
-Crowded t (New r len m) = (t.on ≡ true) × (room_of true t.marks (end t) < 2 * (len + 2))
-Crowded t (Asked r len m) = ⊥
+Crowded t (New want) = (t.on ≡ true) × (room_of true t.marks (end t) < 2 * (want.len + 2))
+Crowded t (Asked want) = ⊥
 Crowded t (FillWrite v) = ⊥
 Crowded t (FillCopy c) = ⊥
 Crowded t (StoreWrite v) = ⊥
 Crowded t (Meet v) = ⊥
 Crowded t (StoreCopy c) = ⊥
 Crowded t (Take n) = ⊥
-Crowded t (Read n x i) = ⊥
-Crowded t (Put n x i c) = ⊥
-Crowded t (Release n x i) = ⊥
+Crowded t (Read n job) = ⊥
+Crowded t (Put n job c) = ⊥
+Crowded t (Release n job) = ⊥
 Crowded t (Looking p th) = ⊥
 Crowded t (Placing p th) = ⊥
 
@@ -110,7 +110,7 @@ place_entered t m i e n l = get_or-set_same t.tasks i e no_task (omega arith)
 
 module _ {l : Limits} {w : Store} {hy : History} {t : Table} {ws : List ℕ} (g : Good l w hy t ws) (i : ℕ) (below : i < 8) where
   -- the task moved on; cs are the copies since the flip
-  pub comes_moved : (before : Place) (X : Type 0) (K : ℕ → Type 0) (pa ra : ℕ → ℕ) (o : State) → o.on ≡ true → (m : Marks) (pending : Pending) (place : Place) (e : Task) (ws' : List ℕ)
+  pub comes_moved : (before : Place) (X : Type 0) (K : ℕ → Type 0) (pa ra : ℕ → ℕ) (o : State) → o.on ≡ true → (m : Marks) (pending : Option Making) (place : Place) (e : Task) (ws' : List ℕ)
       → moved_table t i m pending place ≡ entered t m i (at_task pa ra e) → Inv K t.limits.p t.limits.s o → Agree K pa ra o (entered t m i (at_task pa ra e)) ws'
       → Still o.shape o.prim o.tasks o.roots (happen_all w i (moved_kinds before (at_task pa ra e).place))
       → i < t.limits.p → Stands e.place → (cs : List Copy) → with_copy before Moved hy.copies ≡ cs

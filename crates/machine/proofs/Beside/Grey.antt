@@ -7,7 +7,7 @@ use borrow.Author.Tests.{ltb-true, not-true, not-false}
 use Rattle.table.specs.declared.Limits.{Limits}
 use Rattle.table.specs.declared.Table.{Table}
 use Rattle.table.specs.declared.Holding.{Holding}
-use Rattle.table.specs.declared.Holding.TheVariants.{Rests, Asks, Free, Job, Claim, Both}
+use Rattle.table.specs.declared.Holding.TheVariants.{Job, Claim, Both}
 use Rattle.table.specs.declared.Sought.TheVariants.{Claiming, Asking, Busy}
 use Rattle.machine.specs.History.{History}
 use Rattle.machine.specs.Basics.{pick}
@@ -26,12 +26,10 @@ use Rattle.machine.specs.Beside.Grey.{NothingGrey, Closing, IsHeld}
 
 -- ---- what is held, by job and claim
 works_none : (pa : ℕ → ℕ) (h : Holding) → jobs_in h ≡ 0 → ((x : ℕ) → ClaimIn h x → ⊥) → works_of (at_holding pa h) ≡ false
-works_none pa Rests j c = refl
-works_none pa Asks j c = refl
-works_none pa Free j c = refl
-works_none pa (Job y i) j c = absurd (omega arith)
+works_none pa (Job job) j c = absurd (omega arith)
 works_none pa (Claim p) j c = absurd (c p.0 refl)
-works_none pa (Both p y i) j c = absurd (omega arith)
+works_none pa (Both p job) j c = absurd (omega arith)
+works_none pa _ j c = refl
 
 module _ {l : Limits} {w : Store} {hy : History} {t : Table} {ws : List ℕ} (g : Good l w hy t ws) where
   holds_at : (q : ℕ) → q < t.limits.p → holds t q ≡ at_holding g.pa (holding_of (g.objects.tasks q).place)

@@ -1,24 +1,21 @@
 -- Refusal 7: a New, Fill or Store that is begun is not held, and one that is refused with 7 is: a flip is asked, or the heap is closing.
-use Rattle.std.specs.Prelude.{ℕ, List, Bool, true, false, ltb, leb, eqb}
+use Rattle.std.specs.Prelude.{ℕ, List, Bool, true, false, ltb, leb, eqb, Option, Some, None, Ok, Err}
 use Rattle.std.proofs.Math.Path.{◌≡◌}
 use Rattle.table.specs.declared.Limits.{Limits}
 use Rattle.table.specs.declared.Primary.{Primary}
+use Rattle.table.specs.declared.Descriptor.{Descriptor}
+use Rattle.table.specs.declared.Making.{Making}
 use Rattle.table.specs.declared.Operand.{Operand}
 use Rattle.table.specs.declared.Operand.TheVariants.{Plain, Pointer}
-use Rattle.table.specs.declared.Pending.{Pending}
-use Rattle.table.specs.declared.Pending.TheVariants.{Nothing, Making}
 use Rattle.table.specs.declared.Place.TheVariants.{New}
 use Rattle.table.specs.declared.Table.{Table}
-use Rattle.table.specs.declared.Object.{Object}
-use Rattle.table.specs.declared.Object.TheVariants.{Whole, Torn}
 use Rattle.table.specs.declared.Refusal.TheVariants.{Held}
-use Rattle.table.specs.declared.Gate.TheVariants.{Open, Shut}
 use Rattle.table.specs.declared.Answer.TheVariants.{Accepted, No}
 use Rattle.table.specs.declared.Outcome.{Outcome}
 use Rattle.machine.specs.History.{History}
 use Rattle.machine.specs.Basics.{pick}
 use Rattle.machine.specs.Numbers.{refusal}
-use Rattle.machine.specs.Words.{object_of}
+use Rattle.machine.specs.Words.{object_of, wanted}
 use Rattle.machine.specs.Entries.{task_at, register, no}
 use Rattle.machine.specs.Gate.{behind, through, call_gate, pair_gate}
 use Rattle.machine.specs.Tasks.{slot_taken}
@@ -45,55 +42,55 @@ Other n = No (refusal n) ≡ No Held → ⊥
 
 module _ (t : Table) where
   refuses : (n : ℕ) → Other n → Right t (no t n)
-  refuses n d = (λ e. let z : ◌≡◌ {A = ℕ} 0 1 = cc in clash z, λ e. absurd (d e))
+  refuses n d = (λ e. clash cc, λ e. absurd (d e))
 
   r3 : Right t (no t 3)
-  r3 = refuses 3 (λ e. let z : ◌≡◌ {A = ℕ} 0 1 = cc in clash z)
+  r3 = refuses 3 (λ e. clash cc)
 
   r6 : Right t (no t 6)
-  r6 = refuses 6 (λ e. let z : ◌≡◌ {A = ℕ} 0 1 = cc in clash z)
+  r6 = refuses 6 (λ e. clash cc)
 
   -- behind the test
   unheld : (o : Outcome) → (o.answer ≡ No Held → ⊥) → Right t (pick (held_at t) (no t 7) o)
   unheld o d =
-      pick_all (Right t) (held_at t) _ _ (λ e. (λ h. let z : ◌≡◌ {A = ℕ} 0 1 = cc in clash z, λ h. e)) (λ e. (λ h. e, λ h. absurd (d h)))
+      pick_all (Right t) (held_at t) _ _ (λ e. (λ h. clash cc, λ h. e)) (λ e. (λ h. e, λ h. absurd (d h)))
 
-  fill_slot_lem : (task f : ℕ) (v : Operand) (x : Object) → (fill_slot t task f v x).answer ≡ No Held → ⊥
-  fill_slot_lem task f v (Whole len m) =
-      pick_all (λ (o : Outcome). o.answer ≡ No Held → ⊥) (leb len f) _ _ (λ a e. let z : ◌≡◌ {A = ℕ} 0 1 = cc in clash z)
+  fill_slot_lem : (task f : ℕ) (v : Operand Primary) (x : Option Descriptor) → (fill_slot t task f v x).answer ≡ No Held → ⊥
+  fill_slot_lem task f v (Some dc) =
+      pick_all (λ (o : Outcome). o.answer ≡ No Held → ⊥) (leb dc.len f) _ _ (λ a e. clash cc)
       (λ a.
-      pick_all (λ (o : Outcome). o.answer ≡ No Held → ⊥) (same_test (is_pointer v) (ltb f m)) _ _
-      (λ b e. let z : ◌≡◌ {A = ℕ} 0 1 = cc in clash z)
-      (λ b e. let z : ◌≡◌ {A = ℕ} 0 1 = cc in clash z))
-  fill_slot_lem task f v Torn = λ e. let z : ◌≡◌ {A = ℕ} 0 1 = cc in clash z
+      pick_all (λ (o : Outcome). o.answer ≡ No Held → ⊥) (same_test (is_pointer v) (ltb f dc.m)) _ _
+      (λ b e. clash cc)
+      (λ b e. clash cc))
+  fill_slot_lem task f v None = λ e. clash cc
 
-  store_slot_lem : (ws : List ℕ) (task : ℕ) (x : Primary) (slot : ℕ) (v : Operand) (y : Object) → (store_slot t ws task x slot v y).answer ≡ No Held → ⊥
-  store_slot_lem ws task x slot v (Whole len m) =
-      pick_all (λ (o : Outcome). o.answer ≡ No Held → ⊥) (leb len slot) _ _ (λ a e. let z : ◌≡◌ {A = ℕ} 0 1 = cc in clash z)
+  store_slot_lem : (ws : List ℕ) (task : ℕ) (x : Primary) (slot : ℕ) (v : Operand Primary) (y : Option Descriptor) → (store_slot t ws task x slot v y).answer ≡ No Held → ⊥
+  store_slot_lem ws task x slot v (Some dc) =
+      pick_all (λ (o : Outcome). o.answer ≡ No Held → ⊥) (leb dc.len slot) _ _ (λ a e. clash cc)
       (λ a.
-      pick_all (λ (o : Outcome). o.answer ≡ No Held → ⊥) (same_test (is_pointer v) (ltb slot m)) _ _
+      pick_all (λ (o : Outcome). o.answer ≡ No Held → ⊥) (same_test (is_pointer v) (ltb slot dc.m)) _ _
       (λ b.
       pick_all (λ (o : Outcome). o.answer ≡ No Held → ⊥) (slot_taken t.tasks t.limits.p task x slot) _ _
-      (λ c e. let z : ◌≡◌ {A = ℕ} 0 1 = cc in clash z)
-      (λ c e. let z : ◌≡◌ {A = ℕ} 0 1 = cc in clash z))
-      (λ b e. let z : ◌≡◌ {A = ℕ} 0 1 = cc in clash z))
-  store_slot_lem ws task x slot v Torn = λ e. let z : ◌≡◌ {A = ℕ} 0 1 = cc in clash z
+      (λ c e. clash cc)
+      (λ c e. clash cc))
+      (λ b e. clash cc))
+  store_slot_lem ws task x slot v None = λ e. clash cc
 
-  fill_from_lem : (ws : List ℕ) (task : ℕ) (v : Operand) → Right t (fill_from t ws task v)
+  fill_from_lem : (ws : List ℕ) (task : ℕ) (v : Operand Primary) → Right t (fill_from t ws task v)
   unfolding fill_from
   fill_from_lem ws task v = pick_all (Right t) (idle_at t task) _ _ (λ e. by (task_at t task).pending) (λ e. r6)
     where
-      by : (d : Pending) → Right t (fill_pending t ws task v d)
-      by Nothing = r6
-      by (Making p r len f) = unheld (fill_slot t task f v (object_of ws t.limits.s p)) (fill_slot_lem task f v (object_of ws t.limits.s p))
+      by : (d : Option Making) → Right t (fill_pending t ws task v d)
+      by None = r6
+      by (Some d) = unheld (fill_slot t task d.filled v (object_of ws t.limits.s d.at)) (fill_slot_lem task d.filled v (object_of ws t.limits.s d.at))
 
-  store_from_lem : (ws : List ℕ) (task : ℕ) (x : Primary) (slot : ℕ) (v : Operand) → Right t (store_from t ws task x slot v)
+  store_from_lem : (ws : List ℕ) (task : ℕ) (x : Primary) (slot : ℕ) (v : Operand Primary) → Right t (store_from t ws task x slot v)
   unfolding store_from
   store_from_lem ws task x slot v = pick_all (Right t) (idle_at t task) _ _ (λ e. unheld _ later) (λ e. r6)
     where
       later : (pick (eqb x.0 0) (no t 4) (store_slot t ws task x slot v (object_of ws t.limits.s x))).answer ≡ No Held → ⊥
       later =
-          pick_all (λ (o : Outcome). o.answer ≡ No Held → ⊥) (eqb x.0 0) _ _ (λ a e. let z : ◌≡◌ {A = ℕ} 0 1 = cc in clash z)
+          pick_all (λ (o : Outcome). o.answer ≡ No Held → ⊥) (eqb x.0 0) _ _ (λ a e. clash cc)
           (λ a. store_slot_lem ws task x slot v (object_of ws t.limits.s x))
 
 -- behind the gate, whose refusals are 2 and 3
@@ -101,18 +98,18 @@ module _ {l : Limits} {w : Store} {hy : History} {t : Table} {ws : List ℕ} (g 
   gated : (o : Outcome) → Right t o → Right t (through (call_gate t ws task) t o)
   gated o r = rw (call_gate_lem g.agree g.long task) (on (ltb task t.limits.p))
     where
-      on : (b : Bool) → Right t (through (pick b Open (Shut (refusal 2))) t o)
+      on : (b : Bool) → Right t (through (pick b (Ok tt) (Err (refusal 2))) t o)
       on true = r
-      on false = refuses t 2 (λ e. let z : ◌≡◌ {A = ℕ} 0 1 = cc in clash z)
+      on false = refuses t 2 (λ e. clash cc)
 
   paired : (a b : ℕ) (o : Outcome) → Right t o → Right t (through (pair_gate t ws task a b) t o)
   paired a b o r = rw (pair_gate_lem g.agree g.long task a b) (on (ltb task t.limits.p) (ltb 7 a) (ltb 7 b))
     where
-      on : (c d e : Bool) → Right t (through (behind (pick c Open (Shut (refusal 2))) (pick d (Shut (refusal 3)) (pick e (Shut (refusal 3)) Open))) t o)
+      on : (c d e : Bool) → Right t (through (behind (pick c (Ok tt) (Err (refusal 2))) (pick d (Err (refusal 3)) (pick e (Err (refusal 3)) (Ok tt)))) t o)
       on true true e = r3 t
       on true false true = r3 t
       on true false false = r
-      on false d e = refuses t 2 (λ e. let z : ◌≡◌ {A = ℕ} 0 1 = cc in clash z)
+      on false d e = refuses t 2 (λ e. clash cc)
 
 module _ {l : Limits} {w : Store} {hy : History} {t : Table} {ws : List ℕ} (g : Good l w hy t ws) where
   new_right : (task r len m : ℕ) → Right t (begin_new_of t ws task r len m)
@@ -122,9 +119,9 @@ module _ {l : Limits} {w : Store} {hy : History} {t : Table} {ws : List ℕ} (g 
       (pick_all (Right t) (new_ok t.limits.s r len m) _ _
       (λ a. pick_all (Right t) (idle_at t task) _ _ (λ b. by (task_at t task).pending) (λ b. r6 t)) (λ a. r3 t))
     where
-      by : (d : Pending) → Right t (if_nothing d (pick (held_at t) (no t 7) (begun t task (New r len m))) (no t 6))
-      by Nothing = unheld t (begun t task (New r len m)) (λ e. let z : ◌≡◌ {A = ℕ} 0 1 = cc in clash z)
-      by (Making p r len f) = r6 t
+      by : (d : Option Making) → Right t (if_nothing d (pick (held_at t) (no t 7) (begun t task (New (wanted r len m)))) (no t 6))
+      by None = unheld t (begun t task (New (wanted r len m))) (λ e. clash cc)
+      by (Some d) = r6 t
 
   right : (c : Call) → Begins c → Right t (call c t ws).out
   unfolding begin_fill_of begin_fill_pointer_of begin_store_of begin_store_pointer_of
@@ -132,18 +129,11 @@ module _ {l : Limits} {w : Store} {hy : History} {t : Table} {ws : List ℕ} (g 
   right (Call.Fill task w) b = gated g task _ (fill_from_lem t ws task (Plain w))
   right (Call.FillPointer task r) b =
       gated g task _ (pick_all (Right t) (ltb 7 r) _ _ (λ e. r3 t) (λ e. fill_from_lem t ws task (Pointer (register (task_at t task) r))))
-  right (Call.Load task to from slot) b = absurd b
   right (Call.Store task o slot w) b =
       gated g task _ (pick_all (Right t) (ltb 7 o) _ _ (λ e. r3 t) (λ e. store_from_lem t ws task (register (task_at t task) o) slot (Plain w)))
   right (Call.StorePointer task o slot r) b =
       paired g task o r _ (store_from_lem t ws task (register (task_at t task) o) slot (Pointer (register (task_at t task) r)))
-  right (Call.Move task to from) b = absurd b
-  right (Call.Clear task r) b = absurd b
-  right (Call.Same task x y) b = absurd b
-  right (Call.Put task root r) b = absurd b
-  right (Call.Get task r root) b = absurd b
-  right (Call.Step task) b = absurd b
-  right Call.Report b = absurd b
+  right _ b = absurd b
 
   pub begun_free : (c : Call) → Begins c → (call c t ws).out.answer ≡ Accepted → IsHeld t t.on → ⊥
   begun_free c b e h = held_not g ((right c b).0 e) h

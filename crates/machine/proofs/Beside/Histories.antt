@@ -2,7 +2,7 @@
 use Rattle.std.specs.Prelude.{ℕ, ◌<◌, ◌≤◌, ◌≡◌, refl, List, Bool, true, false, length}
 use Rattle.std.proofs.Common.{ap, ◌∙◌}
 use Rattle.table.specs.declared.Place.{Place}
-use Rattle.table.specs.declared.Place.TheVariants.{Idle, New, Asked, FillWrite, FillCopy, StoreWrite, Meet, StoreCopy, Take, Read, Put, Release, Looking, Placing}
+use Rattle.table.specs.declared.Place.TheVariants.{Release}
 use Rattle.table.specs.declared.Sought.TheVariants.{Busy}
 use Rattle.table.specs.declared.Answer.{Answer}
 use Rattle.table.specs.declared.Table.{Table}
@@ -29,20 +29,8 @@ off_stays false b e = e
 
 -- only a release that went adds a copy
 pub no_copy : (before : Place) (x : Answer) (cs : List Copy) → went x ≡ false → with_copy before x cs ≡ cs
-no_copy Idle x cs e = refl
-no_copy (New r len m) x cs e = refl
-no_copy (Asked r len m) x cs e = refl
-no_copy (FillWrite v) x cs e = refl
-no_copy (FillCopy c) x cs e = refl
-no_copy (StoreWrite v) x cs e = refl
-no_copy (Meet v) x cs e = refl
-no_copy (StoreCopy c) x cs e = refl
-no_copy (Take n) x cs e = refl
-no_copy (Read n p i) x cs e = refl
-no_copy (Put n p i c) x cs e = refl
-no_copy (Release n p i) x cs e = rw e refl
-no_copy (Looking p th) x cs e = refl
-no_copy (Placing p th) x cs e = refl
+no_copy (Release n job) x cs e = rw e refl
+no_copy _ x cs e = refl
 
 pub history_is : (t : Table) (ws : List ℕ) (before : Place) (e : Ends) (h : History) (cs : List Copy) → is_flip t.on e.out.table.on ≡ false
     → with_copy before e.out.answer h.copies ≡ cs → step_history t ws before e h ≡ with_copies h cs

@@ -2,7 +2,7 @@
 use Rattle.std.specs.Prelude.{ℕ, suc, ◌+◌, ◌≤◌, ◌<◌, ◌≡◌, ◌⊎◌, List, Bool, false, length}
 use Rattle.std.proofs.Common.{sym, ◌∙◌, inl, inr, arith}
 use Rattle.table.specs.declared.Place.{Place}
-use Rattle.table.specs.declared.Place.TheVariants.{Idle, New, Asked, FillWrite, FillCopy, StoreWrite, Meet, StoreCopy, Take, Read, Put, Release, Looking, Placing}
+use Rattle.table.specs.declared.Place.TheVariants.{Idle, New, Asked}
 use Rattle.table.specs.declared.Task.{Task}
 use Rattle.table.specs.declared.Table.{Table}
 use Rattle.machine.specs.Flip.{unasked_entry}
@@ -30,19 +30,9 @@ use Rattle.machine.proofs.Beside.Reached.{pending_same, reachable_reach, pending
 rest_unfull : (K : ℕ → Type 0) (s : ℕ) (sh : Shape) (hd : ℕ → Hd) (prim rep : ℕ → ℕ → ℕ) (has : ℕ → ℕ → Bool) (Mt : ℕ → ℕ → Type 0) (on : Bool) (t : ℕ) (e : Task)
     (pl : Place) → Restful pl → PlaceOk K s sh hd prim rep has Mt on t e pl → Unfull e.pending
 rest_unfull K s sh hd prim rep has Mt on t e Idle r q = q.0
-rest_unfull K s sh hd prim rep has Mt on t e (New a len m) r q = rw q.0 tt
-rest_unfull K s sh hd prim rep has Mt on t e (Asked a len m) r q = rw q.1.0 tt
-rest_unfull K s sh hd prim rep has Mt on t e (FillWrite v) r q = absurd r
-rest_unfull K s sh hd prim rep has Mt on t e (FillCopy c) r q = absurd r
-rest_unfull K s sh hd prim rep has Mt on t e (StoreWrite v) r q = absurd r
-rest_unfull K s sh hd prim rep has Mt on t e (Meet v) r q = absurd r
-rest_unfull K s sh hd prim rep has Mt on t e (StoreCopy c) r q = absurd r
-rest_unfull K s sh hd prim rep has Mt on t e (Take n) r q = absurd r
-rest_unfull K s sh hd prim rep has Mt on t e (Read n x i) r q = absurd r
-rest_unfull K s sh hd prim rep has Mt on t e (Put n x i c) r q = absurd r
-rest_unfull K s sh hd prim rep has Mt on t e (Release n x i) r q = absurd r
-rest_unfull K s sh hd prim rep has Mt on t e (Looking a th) r q = absurd r
-rest_unfull K s sh hd prim rep has Mt on t e (Placing a th) r q = absurd r
+rest_unfull K s sh hd prim rep has Mt on t e (New want) r q = rw q.0 tt
+rest_unfull K s sh hd prim rep has Mt on t e (Asked want) r q = rw q.1.0 tt
+rest_unfull K s sh hd prim rep has Mt on t e _ r q = absurd r
 
 module _ {K : ℕ → Type 0} {pa ra : ℕ → ℕ} {o : State} {t : Table} {ws : List ℕ} (v : Inv K t.limits.p t.limits.s o) (k : Agree K pa ra o t ws)
     (rest : (u : ℕ) → Restful (o.tasks u).place) (vs : List ℕ) (only : (x : ℕ) → In x vs → Comes o x) (all : (x : ℕ) → Comes o x → In x vs) where

@@ -6,7 +6,7 @@ use Rattle.std.proofs.Math.Bool.{true}
 use Rattle.table.specs.declared.Limits.{Limits}
 use Rattle.table.specs.declared.Primary.{Primary}
 use Rattle.table.specs.declared.Then.{Then}
-use Rattle.table.specs.declared.Then.TheVariants.{ToWrite, ToStoreCopy, ToFillCopy, ToPut}
+use Rattle.table.specs.declared.Then.TheVariants.{ToWrite}
 use Rattle.table.specs.declared.Place.{Place}
 use Rattle.table.specs.declared.Place.TheVariants.{Looking, Placing}
 use Rattle.table.specs.declared.Task.{Task}
@@ -44,8 +44,8 @@ use Rattle.machine.proofs.Beside.Still.{DoingThen, DoingAt}
 use Rattle.machine.proofs.Beside.Doing.{doing_on, doing_claims, still_goes}
 use Rattle.machine.proofs.Beside.Stands.{stands_on}
 use Rattle.machine.proofs.Objects.CountLaws.{counts_goes}
-use Rattle.machine.proofs.Objects.CountHeads.{counts_claims, counts_places}
-use Rattle.machine.proofs.Beside.Collects.{collects, not_idle, on_left, on_free}
+use Rattle.machine.proofs.Objects.CountHeads.{counts_claims, counts_places, on_left}
+use Rattle.machine.proofs.Beside.Collects.{collects, not_idle, on_free}
 use Rattle.machine.proofs.Beside.Good.{Good, Comes, comes_moved, comes_wait}
 use Rattle.machine.proofs.Beside.Glue.{below, moved_goes}
 
@@ -59,16 +59,12 @@ doing_place e d q th pl pe h = rw pe at h
 look_jobs : (q : Primary) (th : Then) (x : ℕ) → jobs_in (holding_of (Looking q th)) ≡ jobs_in (holding_of (go_on th (replica x)))
 unfolding holding_of
 look_jobs q (ToWrite v) x = refl
-look_jobs q ToStoreCopy x = refl
-look_jobs q ToFillCopy x = refl
-look_jobs q (ToPut n y i) x = refl
+look_jobs q _ x = refl
 
 claim_jobs : (q : Primary) (th : Then) → jobs_in (holding_of (Looking q th)) ≡ jobs_in (holding_of (Placing q th))
 unfolding holding_of
 claim_jobs q (ToWrite v) = refl
-claim_jobs q ToStoreCopy = refl
-claim_jobs q ToFillCopy = refl
-claim_jobs q (ToPut n y i) = refl
+claim_jobs q _ = refl
 
 module _ {l : Limits} {w : Store} {hy : History} {t : Table} {ws : List ℕ} (g : Good l w hy t ws) (i : ℕ) (ip : i < t.limits.p) (q : Primary) (th : Then) (X : Type 0) where
   module _ (pe : (g.objects.tasks i).place ≡ Looking q th) where
@@ -93,7 +89,7 @@ module _ {l : Limits} {w : Store} {hy : History} {t : Table} {ws : List ℕ} (g 
         (moves_agree g.inv g.agree i ip (goes (g.objects.tasks i) (go_on th (replica q.0))) t.marks.j
         (rw (pe, look_jobs q th q.0) refl) (omega arith))
         (still_goes g.still i (below g i ip) (go_on th (replica q.0)) (doing_on (g.objects.tasks i) (owner_at w i).doing q.0 th doing)) ip (stands_on th q.0) hy.copies refl
-        (collects (g.collecting place.0) _ _ refl refl (g.collecting place.0).forgiven (counts_goes g.inv place.0 (g.collecting place.0).counts i ip (Looking q th) (go_on th (replica q.0)) pe (not_idle (Looking q th) tt) (on_left q.0 th) (on_free q.0 th)))
+        (collects (g.collecting place.0) _ _ refl refl (g.collecting place.0).forgiven (counts_goes g.inv place.0 (g.collecting place.0).counts i ip (Looking q th) (go_on th (replica q.0)) pe (not_idle (Looking q th) tt) (on_left th (replica q.0)) (on_free q.0 th)))
 
     -- it is white, and claimed now
     claims : g.objects.hd q.0 ≡ white

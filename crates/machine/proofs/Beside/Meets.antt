@@ -9,7 +9,6 @@ use Rattle.table.specs.declared.Limits.{Limits}
 use Rattle.table.specs.declared.Primary.{Primary}
 use Rattle.table.specs.declared.Operand.{Operand}
 use Rattle.table.specs.declared.Deed.TheVariants.{Goes, Waits}
-use Rattle.table.specs.declared.Storing.TheVariants.{Slot}
 use Rattle.table.specs.declared.Then.TheVariants.{ToStoreCopy}
 use Rattle.table.specs.declared.Place.TheVariants.{Meet, StoreCopy, Take}
 use Rattle.table.specs.declared.Sought.TheVariants.{Claimer, Holder}
@@ -18,8 +17,8 @@ use Rattle.table.specs.declared.Task.{Task}
 use Rattle.table.specs.declared.Table.{Table}
 use Rattle.machine.specs.History.{History}
 use Rattle.machine.specs.Basics.{pick}
-use Rattle.machine.specs.Words.{if_forwarded}
-use Rattle.machine.specs.Entries.{task_at, moved_table, out, ends}
+use Rattle.machine.specs.Words.{if_forwarded, slot_at}
+use Rattle.machine.specs.Entries.{task_at, moved_table, out, ends, storing_on}
 use Rattle.machine.specs.Deeds.{acted}
 use Rattle.machine.specs.Look.{look_ahead}
 use Rattle.machine.specs.Store.{unmet_case, meet_in, meet_of}
@@ -44,19 +43,20 @@ use Rattle.machine.proofs.Objects.CountLaws.{counts_goes, counts_pays}
 use Rattle.machine.proofs.Beside.Collects.{collects, not_idle, ahead_left, ahead_free}
 use Rattle.machine.proofs.Beside.Good.{Good, Comes, comes_moved, comes_wait}
 use Rattle.machine.proofs.Beside.Glue.{at_ahead, below, moved_goes, busy_at}
+use Rattle.machine.proofs.Objects.Base.{clash}
 
 -- behind the meet nothing is held, and the store knows no more than that the task is busy
-ahead_jobs : (v : Operand) → 0 ≡ jobs_in (holding_of (look_ahead v ToStoreCopy StoreCopy))
+ahead_jobs : (v : Operand Primary) → 0 ≡ jobs_in (holding_of (look_ahead v ToStoreCopy StoreCopy))
 unfolding holding_of
 ahead_jobs v = by_ahead (λ pl. 0 ≡ jobs_in (holding_of pl)) v ToStoreCopy StoreCopy (λ c. refl) (λ p. refl)
 
-ahead_doing : (e : Task) (d : Doing) (v : Operand) → is_resting d ≡ false
+ahead_doing : (e : Task) (d : Doing) (v : Operand Primary) → is_resting d ≡ false
     → DoingAt (goes e (look_ahead v ToStoreCopy StoreCopy)) d (look_ahead v ToStoreCopy StoreCopy)
 ahead_doing e d v h = by_ahead (λ pl. DoingAt (goes e pl) d pl) v ToStoreCopy StoreCopy (λ c. h) (λ p. h)
 
 module _ {l : Limits} {w : Store} {hy : History} {t : Table} {ws : List ℕ} (g : Good l w hy t ws) (i : ℕ) (ip : i < t.limits.p) (x : Primary) (j : ℕ)
-    (se : (g.objects.tasks i).storing ≡ Slot x j) (X : Type 0) (v : Operand) (pe : (g.objects.tasks i).place ≡ Meet v) where
-  stored : StoringOk g.kept g.objects.shape (Slot x j)
+    (se : (g.objects.tasks i).storing ≡ storing_on x j) (X : Type 0) (v : Operand Primary) (pe : (g.objects.tasks i).place ≡ Meet v) where
+  stored : StoringOk g.kept g.objects.shape (storing_on x j)
   stored = rw se at (g.inv.entries i).storing
 
   held : Held g.kept g.objects.shape x.0
@@ -95,11 +95,11 @@ module _ {l : Limits} {w : Store} {hy : History} {t : Table} {ws : List ℕ} (g 
   waits_claimer : (u : ℕ) → g.objects.hd x.0 ≡ claimed u → Comes l w hy t ws i (at_place g.pa g.ra (Meet v)) X (ends (wait_of t (Claimer (at_primary g.pa x))) ws)
   waits_claimer u d = let f = claimer_found g.agree g.inv x.0 u d in rw f.1 (comes_wait g i (below g i ip) (at_place g.pa g.ra (Meet v)) X f.0)
 
-  waits_holder : (u : ℕ) → g.objects.hd x.0 ≡ locked j u → Comes l w hy t ws i (at_place g.pa g.ra (Meet v)) X (ends (wait_of t (Holder (at_primary g.pa x) j)) ws)
+  waits_holder : (u : ℕ) → g.objects.hd x.0 ≡ locked j u → Comes l w hy t ws i (at_place g.pa g.ra (Meet v)) X (ends (wait_of t (Holder (slot_at (at_primary g.pa x) j))) ws)
   waits_holder u d = let f = holder_found g.agree g.inv x.0 j u d in rw f.1 (comes_wait g i (below g i ip) (at_place g.pa g.ra (Meet v)) X f.0)
 
   pub meet_comes : Comes l w hy t ws i (at_place g.pa g.ra (Meet v)) X
-      (settle t i (meet_of t.marks ws t.limits.s t.limits.k (Slot (at_primary g.pa x) j) (at_operand g.pa v)))
+      (settle t i (meet_of t.marks ws t.limits.s t.limits.k (storing_on (at_primary g.pa x) j) (at_operand g.pa v)))
   unfolding meet_of settle_of
   meet_comes = rw (look_of_lem g.inv g.agree x.0 held) (on (g.objects.hd x.0) refl)
     where
@@ -112,13 +112,13 @@ module _ {l : Limits} {w : Store} {hy : History} {t : Table} {ws : List ℕ} (g 
       on (claimed u) e = waits_claimer u e
       on (count c) e =
           rw (copying_of_lem g.inv g.agree place.0 x.0 held (rw e tt), e)
-          (goes_on (rw e tt) (λ u d. let z : ◌≡◌ {A = ℕ} 0 1 = cc in absurd (omega arith)))
+          (goes_on (rw e tt) (λ u d. clash cc))
       on (locked m u) e = rw (copying_of_lem g.inv g.agree place.0 x.0 held (rw e tt), e) (at (eqb m j) refl)
         where
           at : (b : Bool) → eqb m j ≡ b
               → Comes l w hy t ws i (at_place g.pa g.ra (Meet v)) X
               (settle t i
-              (pick b (acted (Waits (Holder (at_primary g.pa x) j)) ws)
+              (pick b (acted (Waits (Holder (slot_at (at_primary g.pa x) j))) ws)
               (acted (Goes t.marks (look_ahead (at_operand g.pa v) ToStoreCopy StoreCopy)) ws)))
           at true q = waits_holder u (e ∙ ap (λ (z : ℕ). locked z u) (eqb-true m j q))
           at false q = goes_on (rw e tt) (λ r d. eqb-false m j q (let z : m ≡ j = cc in z))

@@ -18,41 +18,30 @@ use Rattle.machine.specs.Beside.OneStep.{WrittenAt}
 
 pub waits_once : (p : Place) → waits p ≤ 1
 waits_once Idle = omega arith
-waits_once (New r len m) = omega arith
-waits_once (Asked r len m) = omega arith
+waits_once (New want) = omega arith
+waits_once (Asked want) = omega arith
 waits_once (FillWrite v) = omega arith
 waits_once (FillCopy c) = omega arith
 waits_once (StoreWrite v) = omega arith
 waits_once (Meet v) = omega arith
 waits_once (StoreCopy c) = omega arith
 waits_once (Take n) = omega arith
-waits_once (Read n x i) = omega arith
-waits_once (Put n x i c) = omega arith
-waits_once (Release n x i) = omega arith
+waits_once (Read n job) = omega arith
+waits_once (Put n job c) = omega arith
+waits_once (Release n job) = omega arith
 waits_once (Looking p (ToWrite v)) = omega arith
 waits_once (Looking p ToStoreCopy) = omega arith
 waits_once (Looking p ToFillCopy) = omega arith
-waits_once (Looking p (ToPut n x i)) = omega arith
+waits_once (Looking p (ToPut n job)) = omega arith
 waits_once (Placing p (ToWrite v)) = omega arith
 waits_once (Placing p ToStoreCopy) = omega arith
 waits_once (Placing p ToFillCopy) = omega arith
-waits_once (Placing p (ToPut n x i)) = omega arith
+waits_once (Placing p (ToPut n job)) = omega arith
 
 -- a call is a step, which begins nothing, or it writes nothing
 step_or : (c : Call) (e : Ends) → ((c ≡ Call.Step (task_of c)) × (begins c (then c e).out.answer ≡ 0)) ⊎ (writes (kinds_of c e) ≡ 0)
-step_or (Call.New task r len m) e = inr refl
-step_or (Call.Fill task w) e = inr refl
-step_or (Call.FillPointer task r) e = inr refl
-step_or (Call.Load task to from slot) e = inr refl
-step_or (Call.Store task o slot w) e = inr refl
-step_or (Call.StorePointer task o slot r) e = inr refl
-step_or (Call.Move task to from) e = inr refl
-step_or (Call.Clear task r) e = inr refl
-step_or (Call.Same task a b) e = inr refl
-step_or (Call.Put task root r) e = inr refl
-step_or (Call.Get task r root) e = inr refl
 step_or (Call.Step task) e = inl (refl, refl)
-step_or Call.Report e = inr refl
+step_or _ e = inr refl
 
 -- and so for what it counts of task i
 pub step_of : (i : ℕ) (c : Call) (e : Ends) → ((c ≡ Call.Step i) × (begun_in i c e ≡ 0)) ⊎ (written_in i c e ≡ 0)

@@ -5,7 +5,7 @@ use Rattle.table.specs.declared.Place.{Place}
 use Rattle.table.specs.declared.Task.{Task}
 use Rattle.table.specs.declared.Table.{Table}
 use Rattle.table.specs.declared.Answer.{Answer}
-use Rattle.table.specs.declared.Answer.TheVariants.{Accepted, Done, Value, Moved, Wait, Report, No}
+use Rattle.table.specs.declared.Answer.TheVariants.{Accepted, Done}
 use Rattle.table.specs.declared.Outcome.{Outcome}
 use Rattle.machine.specs.Basics.{first_of}
 use Rattle.machine.specs.Entries.{no_task, task_at, Ends}
@@ -19,6 +19,7 @@ use Rattle.machine.proofs.Beside.Changes.{Answered, stayed, entered, move_entrie
 use Rattle.machine.proofs.Beside.StepChanges.{Stepped, stands, goes, flips, switches}
 use Rattle.machine.proofs.Beside.Fair.{step_entries}
 use Rattle.machine.specs.Beside.Others.{Untouched}
+use Rattle.machine.proofs.Agree.Rows.{length_first}
 
 -- ---- the first n made new
 pub first_at : {A : Type 0} (n : ℕ) (new : A → A) (l : List A) (u : ℕ) (d : A)
@@ -29,12 +30,6 @@ first_at (suc n) new [] u d = inl refl
 first_at (suc n) new (x ∷ l) zero d = inr refl
 first_at (suc n) new (x ∷ l) (suc u) d = first_at n new l u d
 
-pub first_long : {A : Type 0} (n : ℕ) (new : A → A) (l : List A) → length (first_of n new l) ≡ length l
-unfolding first_of
-first_long zero new l = refl
-first_long (suc n) new [] = refl
-first_long (suc n) new (x ∷ l) = ap suc (first_long n new l)
-
 -- ---- the number of entries stays
 answered_long : (b : Answer → ℕ) (t : Table) (i : ℕ) (o : Outcome) → Answered b t i o → length o.table.tasks ≡ length t.tasks
 answered_long b t i o (stayed e a z) = ap length e
@@ -43,9 +38,9 @@ answered_long b t i o (entered x e a z) = ap length e ∙ length-set t.tasks i x
 stepped_long : (t : Table) (i : ℕ) (before : Place) (f : Ends) → Stepped t i before f → length f.out.table.tasks ≡ length t.tasks
 stepped_long t i before f (stands e a z) = ap length e
 stepped_long t i before f (goes x e a z) = ap length e ∙ length-set t.tasks i x
-stepped_long t i before f (flips a b e z) = ap length e ∙ first_long t.limits.p unasked_entry t.tasks
+stepped_long t i before f (flips a b e z) = ap length e ∙ length_first t.limits.p unasked_entry t.tasks
 stepped_long t i before f (switches x a b e z) =
-    ap length e ∙ first_long t.limits.p (new_entry f.words t.limits.s) (set t.tasks i x) ∙ length-set t.tasks i x
+    ap length e ∙ length_first t.limits.p (new_entry f.words t.limits.s) (set t.tasks i x) ∙ length-set t.tasks i x
 
 -- every call is answered at once, or is a step
 pub data Changed (c : Call) (t : Table) (f : Ends) : Type 0 where
@@ -154,20 +149,13 @@ accepted_other w (Call.Store task o slot v) u h = get_or-set_other w.owners task
 accepted_other w (Call.StorePointer task o slot r) u h = get_or-set_other w.owners task u _ (owner [] 0 0 resting) h
 accepted_other w (Call.Move task to from) u h = get_or-set_other w.owners task u _ (owner [] 0 0 resting) h
 accepted_other w (Call.Clear task r) u h = get_or-set_other w.owners task u _ (owner [] 0 0 resting) h
-accepted_other w (Call.Same task a b) u h = refl
-accepted_other w (Call.Put task root r) u h = refl
 accepted_other w (Call.Get task r root) u h = get_or-set_other w.owners task u _ (owner [] 0 0 resting) h
-accepted_other w (Call.Step task) u h = refl
-accepted_other w Call.Report u h = refl
+accepted_other w _ u h = refl
 
 told_other : (w : Store) (c : Call) (x : Answer) (ks : List Kind) (u : ℕ) → u ≢ task_of c → owner_at (told w c x ks) u ≡ owner_at w u
 told_other w c Accepted ks u h = happen_others (accepted w c) (task_of c) ks u h ∙ accepted_other w c u h
 told_other w c Done ks u h = happen_others (accepted w c) (task_of c) ks u h ∙ accepted_other w c u h
-told_other w c (Value v) ks u h = happen_others w (task_of c) ks u h
-told_other w c Moved ks u h = happen_others w (task_of c) ks u h
-told_other w c (Wait q) ks u h = happen_others w (task_of c) ks u h
-told_other w c (Report on live copies) ks u h = happen_others w (task_of c) ks u h
-told_other w c (No x) ks u h = happen_others w (task_of c) ks u h
+told_other w c _ ks u h = happen_others w (task_of c) ks u h
 
 pub others_still : (w : Store) (c : Call) (e f : Ends) (u : ℕ) → u ≢ task_of c → owner_at (follows w c e f) u ≡ owner_at w u
 others_still w c e f u h = told_other w c f.out.answer _ u h

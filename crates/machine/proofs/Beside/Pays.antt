@@ -15,7 +15,7 @@ use Rattle.table.specs.declared.Answer.TheVariants.{Done}
 use Rattle.table.specs.declared.Table.{Table}
 use Rattle.machine.specs.History.{History, with_copies}
 use Rattle.machine.specs.Basics.{pick}
-use Rattle.machine.specs.Words.{primary}
+use Rattle.machine.specs.Words.{primary, slot_at}
 use Rattle.machine.specs.Entries.{task_at, marks_at, ends}
 use Rattle.machine.specs.Switch.{ended_entry, ended_table, finish_of}
 use Rattle.machine.specs.Pay.{take_of}
@@ -78,11 +78,11 @@ module _ {l : Limits} {w : Store} {hy : History} {t : Table} {ws : List ℕ} (g 
           z,
         )
         (comes_moved g i (below g i ip) (at_place g.pa g.ra (Take n)) X g.kept g.pa g.ra
-        (heads g.objects x (locked c i) st i (goes (g.objects.tasks i) (Read n (primary x) c))) live _ _ _ (goes (g.objects.tasks i) (Read n (primary x) c)) _
-        (moved_goes g i ip (marks_at t.marks.a (t.marks.top + 1) (t.marks.j + 1) t.marks.copies) (Read n (primary x) c))
+        (heads g.objects x (locked c i) st i (goes (g.objects.tasks i) (Read n (slot_at (primary x) c)))) live _ _ _ (goes (g.objects.tasks i) (Read n (slot_at (primary x) c))) _
+        (moved_goes g i ip (marks_at t.marks.a (t.marks.top + 1) (t.marks.j + 1) t.marks.copies) (Read n (slot_at (primary x) c)))
         (takes g.objects i n x c st g.inv ip pe es e)
-        (take_agree g.inv g.agree i ip (goes (g.objects.tasks i) (Read n (primary x) c)) x c st es e live (rw pe (omega arith)))
-        (still_goes g.still i (below g i ip) (Read n (primary x) c) (busy_at g i ip (Take n) pe tt)) ip tt hy.copies refl
+        (take_agree g.inv g.agree i ip (goes (g.objects.tasks i) (Read n (slot_at (primary x) c))) x c st es e live (rw pe (omega arith)))
+        (still_goes g.still i (below g i ip) (Read n (slot_at (primary x) c)) (busy_at g i ip (Take n) pe tt)) ip tt hy.copies refl
         (collects (g.collecting live) _ _ refl refl (g.collecting live).forgiven (counts_takes g.inv live (g.collecting live).counts i ip n x c st pe es e)))
 
     -- what was left to pay is forgiven

@@ -1,16 +1,16 @@
 -- What is reachable or pending in table and words is what a flip reaches, object by object.
-use Rattle.std.specs.Prelude.{ℕ, zero, suc, ◌≤◌, ◌<◌, ◌≡◌, refl, ◌≢◌, ◌⊎◌, List, length}
+use Rattle.std.specs.Prelude.{ℕ, zero, suc, ◌≤◌, ◌<◌, ◌≡◌, refl, ◌≢◌, ◌⊎◌, List, length, Option, Some, None}
 use Rattle.std.proofs.Common.{ap, sym, ◌∙◌, inl, inr, arith}
 use Rattle.std.proofs.Math.Decide.{dec_lt}
 use Rattle.std.proofs.Math.ListN.{get_or-eq_default}
 use Rattle.std.proofs.lemmas.List.{get_or-replicate}
 use Rattle.table.specs.declared.Primary.{Primary}
-use Rattle.table.specs.declared.Pending.{Pending as Made}
-use Rattle.table.specs.declared.Pending.TheVariants.{Nothing, Making}
+use Rattle.table.specs.declared.Making.{Making}
 use Rattle.table.specs.declared.Task.{Task}
 use Rattle.table.specs.declared.Table.{Table}
+use Rattle.machine.proofs.Parts.{described_is, pending_parts}
 use Rattle.machine.specs.Words.{primary}
-use Rattle.machine.specs.Entries.{task_at, nil}
+use Rattle.machine.specs.Entries.{task_at, nil, pending_with}
 use Rattle.machine.specs.Live.Reachable.{Points, Reachable, in_register, in_root, in_pending, in_slot, Pending}
 use Rattle.machine.specs.Objects.Base.{In}
 use Rattle.machine.proofs.Objects.Base.{clash}
@@ -64,7 +64,7 @@ module _ {K : ℕ → Type 0} {pa ra : ℕ → ℕ} {o : State} {t : Table} {ws 
   points_ptr : (x j p : ℕ) → Held K o.shape x → Points t ws (pa x) j p → j < o.shape.ptr x
   points_ptr x j p h (len, m, e, l, w, n) =
       let q = sym (object_of_lem v k x h) ∙ e in
-      let z : o.shape.ptr x ≡ m = cc in
+      let z = (described_is (o.shape.len x) (o.shape.ptr x) len m q).1 in
       omega arith
 
   points_slot : (x j p : ℕ) → Held K o.shape x → Points t ws (pa x) j p → j < o.shape.fill x
@@ -79,22 +79,22 @@ module _ {K : ℕ → Type 0} {pa ra : ℕ → ℕ} {o : State} {t : Table} {ws 
   pending_of i l = ap (λ (e : Task). e.pending) (k.tasks i l)
 
   -- the pending object of a task, read off the table
-  pub pending_is_lem : (i q r len f : ℕ) → i < t.limits.p → (task_at t i).pending ≡ Making (primary q) r len f
+  pub pending_is_lem : (i q r len f : ℕ) → i < t.limits.p → (task_at t i).pending ≡ pending_with (primary q) r len f
       → (x : ℕ) × Held K o.shape x × (pa x ≡ q) × (f ≡ o.shape.fill x) × (len ≡ o.shape.len x) × (pending_is (o.tasks i).pending ≡ x)
       × (Unfull (o.tasks i).pending → f < len)
   pending_is_lem i q r len f l e = go (o.tasks i).pending (v.entries i).pending (sym (pending_of i (task_in k i l)) ∙ e)
     where
-      go : (d : Made) → PendingOk K o.shape o.hd o.on d → at_pending pa d ≡ Making (primary q) r len f
+      go : (d : Option Making) → PendingOk K o.shape o.hd o.on d → at_pending pa d ≡ pending_with (primary q) r len f
           → (x : ℕ) × Held K o.shape x × (pa x ≡ q) × (f ≡ o.shape.fill x) × (len ≡ o.shape.len x) × (pending_is d ≡ x) × (Unfull d → f < len)
-      go Nothing w z = let y : ◌≡◌ {A = ℕ} 0 1 = cc in clash y
-      go (Making x r' len' f') w z =
-          let a : at_primary pa x ≡ primary q = cc in
-          let b : len' ≡ len = cc in
-          let c : f' ≡ f = cc in
-          (x.0, (w.0, w.2, w.1), ap (λ (p : Primary). p.0) a, sym c ∙ w.4, sym b ∙ w.3, refl, λ u. omega arith)
+      go None w z = clash cc
+      go (Some d) w z =
+          let y = pending_parts (record { at = at_primary pa d.at; register = d.register; len = d.len; filled = d.filled }) (primary q) r len f z in
+          let b = y.2 in
+          let c = y.3 in
+          (d.at.0, (w.0, w.2, w.1), ap (λ (p : Primary). p.0) y.0, sym c ∙ w.4, sym b ∙ w.3, refl, λ u. omega (arith, b, c))
 
   -- the pending object at the pointer of x is x
-  pub pending_same : (x i r len f : ℕ) → Held K o.shape x → i < t.limits.p → (task_at t i).pending ≡ Making (primary (pa x)) r len f
+  pub pending_same : (x i r len f : ℕ) → Held K o.shape x → i < t.limits.p → (task_at t i).pending ≡ pending_with (primary (pa x)) r len f
       → (f ≡ o.shape.fill x) × (len ≡ o.shape.len x) × (Unfull (o.tasks i).pending → f < len)
   pending_same x i r len f h l e =
       let w = pending_is_lem i (pa x) r len f l e in
@@ -106,10 +106,10 @@ module _ {K : ℕ → Type 0} {pa ra : ℕ → ℕ} {o : State} {t : Table} {ws 
   is_pending : (i x : ℕ) → 0 < x → pending_is (o.tasks i).pending ≡ x → Held K o.shape x × Pending t (pa x)
   is_pending i x l e = on (dec_lt i t.limits.p)
     where
-      go : i < t.limits.p → (d : Made) → (o.tasks i).pending ≡ d → PendingOk K o.shape o.hd o.on d → pending_is d ≡ x → Held K o.shape x × Pending t (pa x)
-      go m Nothing q w z = absurd (omega arith)
-      go m (Making y r len f) q w z =
-          rw (sym z) ((w.0, w.2, w.1), (i, m, r, len, f, pending_of i (task_in k i m) ∙ ap (at_pending pa) q))
+      go : i < t.limits.p → (d : Option Making) → (o.tasks i).pending ≡ d → PendingOk K o.shape o.hd o.on d → pending_is d ≡ x → Held K o.shape x × Pending t (pa x)
+      go m None q w z = absurd (omega arith)
+      go m (Some d) q w z =
+          rw (sym z) ((w.0, w.2, w.1), (i, m, d.register, d.len, d.filled, pending_of i (task_in k i m) ∙ ap (at_pending pa) q))
 
       on : Dec (i < t.limits.p) → Held K o.shape x × Pending t (pa x)
       on (yes m) = go m (o.tasks i).pending refl (v.entries i).pending e

@@ -1,5 +1,5 @@
 -- The reasons for what a step answers: a payment ends early only if nothing is grey; 9 and a flip come only for want of room.
-use Rattle.std.specs.Prelude.{ℕ, ◌+◌, ◌-◌, ◌*◌, ◌⊎◌, List, Bool, get_or, take, ltb, leb, eqb}
+use Rattle.std.specs.Prelude.{ℕ, ◌+◌, ◌-◌, ◌*◌, ◌⊎◌, List, Bool, get_or, take, ltb, leb, eqb, Option, Some, None, Ok, Err}
 use Rattle.std.proofs.Math.Path.{◌≡◌, refl}
 use Rattle.std.proofs.Common.{sym, ◌∙◌, inl, inr}
 use Rattle.std.proofs.Math.Bool.{true, false}
@@ -7,7 +7,7 @@ use borrow.Author.Tests.{leb-false}
 use Rattle.table.specs.declared.Limits.{Limits}
 use Rattle.table.specs.declared.Replica.{Replica}
 use Rattle.table.specs.declared.Marks.{Marks}
-use Rattle.table.specs.declared.Pending.{Pending}
+use Rattle.table.specs.declared.Making.{Making}
 use Rattle.table.specs.declared.Place.{Place}
 use Rattle.table.specs.declared.Place.TheVariants.{New, Asked, Take}
 use Rattle.table.specs.declared.Table.{Table}
@@ -17,19 +17,15 @@ use Rattle.table.specs.declared.Refusal.{Refusal}
 use Rattle.table.specs.declared.Refusal.TheVariants.{NoRoom}
 use Rattle.table.specs.declared.Sought.{Sought}
 use Rattle.table.specs.declared.Sought.TheVariants.{Worker}
-use Rattle.table.specs.declared.Found.{Found}
-use Rattle.table.specs.declared.Found.TheVariants.{At, Nobody}
 use Rattle.table.specs.declared.Deed.{Deed}
 use Rattle.table.specs.declared.Deed.TheVariants.{Goes, GoesWith, Ends, EndsWith, Waits, Fails}
-use Rattle.table.specs.declared.Gate.{Gate}
-use Rattle.table.specs.declared.Gate.TheVariants.{Open, Shut}
 use Rattle.table.specs.declared.Answer.{Answer}
 use Rattle.table.specs.declared.Answer.TheVariants.{Done, Moved, No}
 use Rattle.table.specs.declared.Outcome.{Outcome}
 use Rattle.machine.specs.History.{History}
-use Rattle.machine.specs.Basics.{pick, all_of}
+use Rattle.machine.specs.Basics.{pick, all_of, Gate}
 use Rattle.machine.specs.Numbers.{refusal}
-use Rattle.machine.specs.Words.{primary, look_of, copying_of, room_for}
+use Rattle.machine.specs.Words.{primary, look_of, copying_of, room_for, wanted}
 use Rattle.machine.specs.Entries.{task_at, pending_ok, ends}
 use Rattle.machine.specs.Entries.{Ends as Ended}
 use Rattle.machine.specs.Gate.{call_gate}
@@ -57,7 +53,7 @@ abbrev Shows : Answer → Type 0 → Ended → Type 0
 Shows x G f = f.out.answer ≡ x → G
 
 -- what a task's step shows, by its place
-module _ (t : Table) (ws : List ℕ) (i : ℕ) (x : Answer) (G : Type 0) (shut : (y : Refusal) → call_gate t ws i ≡ Shut y → No y ≡ x → G)
+module _ (t : Table) (ws : List ℕ) (i : ℕ) (x : Answer) (G : Type 0) (shut : (y : Refusal) → call_gate t ws i ≡ Err y → No y ≡ x → G)
     (turn : No (refusal 6) ≡ x → G) (damaged : No (refusal 11) ≡ x → G) where
   by_step : (pl : Place) → (task_at t i).place ≡ pl → (t.on ≡ true → Shows x G (on_step_of t ws i (task_at t i) pl)) → (t.on ≡ false → Shows x G (off_step_of t ws i (task_at t i) pl))
       → Shows x G (step_of t ws i)
@@ -68,13 +64,13 @@ module _ (t : Table) (ws : List ℕ) (i : ℕ) (x : Answer) (G : Type 0) (shut :
       placed = rw e (pick_all (Shows x G) t.on _ _ a b)
 
       gate : (g : Gate) → call_gate t ws i ≡ g → Shows x G (step_through g t ws (task_step_of t ws i))
-      gate Open f =
+      gate (Ok u) f =
           pick_all (Shows x G) (idle_at t i) _ _ (λ f. turn) (λ f. pick_all (Shows x G) (pending_ok (task_at t i).pending) _ _ (λ k. placed) (λ k. damaged))
-      gate (Shut y) f = shut y f
+      gate (Err y) f = shut y f
 
 -- ---- an early end
 refusal_done : {G : Type 0} (y : Refusal) → No y ≡ Done → G
-refusal_done y e = let z : ◌≡◌ {A = ℕ} 0 1 = cc in clash z
+refusal_done y e = clash cc
 
 -- a take does not end the instruction
 abbrev Endless : Deed → Type 0
@@ -101,14 +97,14 @@ module _ (t : Table) (i : ℕ) (G : Type 0) where
   unfolding wait_of
   waited w ws = by (seek_of t.tasks t.limits.p w)
     where
-      by : (f : Found) → Shows Done G (ends (wait_for t f) ws)
-      by (At q) e = let z : ◌≡◌ {A = ℕ} 0 1 = cc in clash z
-      by Nobody e = refusal_done (refusal 11) e
+      by : (f : Option ℕ) → Shows Done G (ends (wait_for t f) ws)
+      by (Some q) e = clash cc
+      by None e = refusal_done (refusal 11) e
 
   endless : (d : Deed) (ws : List ℕ) → Endless d → Shows Done G (settle_of t i d ws)
   unfolding settle_of
-  endless (Goes m place) ws h e = let z : ◌≡◌ {A = ℕ} 0 1 = cc in clash z
-  endless (GoesWith m pending place) ws h e = let z : ◌≡◌ {A = ℕ} 0 1 = cc in clash z
+  endless (Goes m place) ws h e = clash cc
+  endless (GoesWith m pending place) ws h e = clash cc
   endless (Ends m) ws h e = absurd h
   endless (EndsWith m pending) ws h e = absurd h
   endless (Waits w) ws h e = waited w ws e
@@ -132,7 +128,7 @@ module _ {l : Limits} {w : Store} {hy : History} {t : Table} {ws : List ℕ} (g 
 -- ---- 9, and the flip
 -- an end answers what it was to answer, or 11
 module _ (t : Table) (i : ℕ) (x : Answer) (G : Type 0) (damaged : No (refusal 11) ≡ x → G) where
-  ended : (ws : List ℕ) (m : Marks) (d : Pending) (y : Answer) → (y ≡ x → G) → Shows x G (finish_of t ws i m d y)
+  ended : (ws : List ℕ) (m : Marks) (d : Option Making) (y : Answer) → (y ≡ x → G) → Shows x G (finish_of t ws i m d y)
   unfolding finish_of switch_of
   ended ws m d y h =
       pick_all (λ (o : Outcome). Shows x G (ends o ws)) (switch_due (ended_table t i m d)) _ _
@@ -145,7 +141,7 @@ module _ (t : Table) (i : ℕ) (x : Answer) (G : Type 0) (damaged : No (refusal 
       (λ due. h)
 
 unmoved : {G : Type 0} {y : Refusal} → No y ≡ Moved → G
-unmoved e = let z : ◌≡◌ {A = ℕ} 0 1 = cc in clash z
+unmoved e = clash cc
 
 module _ (t : Table) (ws : List ℕ) (i r len m : ℕ) where
   new_shows : Shows (No NoRoom) (TooFull t len) (new_on_of t ws i r len m)
@@ -154,9 +150,9 @@ module _ (t : Table) (ws : List ℕ) (i r len m : ℕ) where
       pick_all (Shows (No NoRoom) (TooFull t len)) (new_ok t.limits.s r len m) _ _
       (λ e.
       pick_all (Shows (No NoRoom) (TooFull t len)) (leb (2 * (len + 2)) (t.marks.top - t.marks.a - t.marks.j)) _ _
-      (λ f h. let z : ◌≡◌ {A = ℕ} 0 1 = cc in clash z)
+      (λ f h. clash cc)
       (λ f h. leb-false _ _ f))
-      (λ e h. let z : ◌≡◌ {A = ℕ} 0 1 = cc in clash z)
+      (λ e h. clash cc)
 
   off_shows : Shows Moved (NoneLeft t len) (new_off_of t ws i r len m)
   unfolding new_off_of room_for
@@ -164,23 +160,23 @@ module _ (t : Table) (ws : List ℕ) (i r len m : ℕ) where
       pick_all (Shows Moved (NoneLeft t len)) (new_ok t.limits.s r len m) _ _
       (λ e.
       pick_all (Shows Moved (NoneLeft t len)) (leb (len + 2) (end t - t.marks.a)) _ _
-      (λ f. ended t i Moved (NoneLeft t len) (λ h. let z : ◌≡◌ {A = ℕ} 0 1 = cc in clash z) _ _ _ Done (λ h. let z : ◌≡◌ {A = ℕ} 0 1 = cc in clash z))
+      (λ f. ended t i Moved (NoneLeft t len) (λ h. clash cc) _ _ _ Done (λ h. clash cc))
       (λ f h. leb-false _ _ f))
-      (λ e h. let z : ◌≡◌ {A = ℕ} 0 1 = cc in clash z)
+      (λ e h. clash cc)
 
   -- the same of the calls
-  pub flips_for_room : t.on ≡ false → ((task_at t i).place ≡ New r len m) ⊎ ((task_at t i).place ≡ Asked r len m) → (step_of t ws i).out.answer ≡ Moved → NoneLeft t len
+  pub flips_for_room : t.on ≡ false → ((task_at t i).place ≡ New (wanted r len m)) ⊎ ((task_at t i).place ≡ Asked (wanted r len m)) → (step_of t ws i).out.answer ≡ Moved → NoneLeft t len
   unfolding off_step_of
-  flips_for_room off (inl e) = by_step t ws i Moved (NoneLeft t len) (λ y f h. unmoved h) unmoved unmoved (New r len m) e (λ f. off_on (sym off ∙ f)) (λ f. off_shows)
-  flips_for_room off (inr e) = by_step t ws i Moved (NoneLeft t len) (λ y f h. unmoved h) unmoved unmoved (Asked r len m) e (λ f. off_on (sym off ∙ f)) (λ f. off_shows)
+  flips_for_room off (inl e) = by_step t ws i Moved (NoneLeft t len) (λ y f h. unmoved h) unmoved unmoved (New (wanted r len m)) e (λ f. off_on (sym off ∙ f)) (λ f. off_shows)
+  flips_for_room off (inr e) = by_step t ws i Moved (NoneLeft t len) (λ y f h. unmoved h) unmoved unmoved (Asked (wanted r len m)) e (λ f. off_on (sym off ∙ f)) (λ f. off_shows)
 
-  pub nine_for_room : {l : Limits} {w : Store} {hy : History} → Good l w hy t ws → t.on ≡ true → (task_at t i).place ≡ New r len m → (step_of t ws i).out.answer ≡ No NoRoom → TooFull t len
+  pub nine_for_room : {l : Limits} {w : Store} {hy : History} → Good l w hy t ws → t.on ≡ true → (task_at t i).place ≡ New (wanted r len m) → (step_of t ws i).out.answer ≡ No NoRoom → TooFull t len
   unfolding on_step_of
   nine_for_room g on e =
       by_step t ws i (No NoRoom) (TooFull t len) (λ y f h. shut (ltb i t.limits.p) y (sym (call_gate_lem g.agree g.long i) ∙ f) h)
-      (λ h. let z : ◌≡◌ {A = ℕ} 0 1 = cc in clash z)
-      (λ h. let z : ◌≡◌ {A = ℕ} 0 1 = cc in clash z) (New r len m) e (λ f. new_shows) (λ f. off_on (sym f ∙ on))
+      (λ h. clash cc)
+      (λ h. clash cc) (New (wanted r len m)) e (λ f. new_shows) (λ f. off_on (sym f ∙ on))
     where
-      shut : (b : Bool) (y : Refusal) → pick b Open (Shut (refusal 2)) ≡ Shut y → No y ≡ No NoRoom → TooFull t len
-      shut true y f h = let z : ◌≡◌ {A = ℕ} 0 1 = cc in clash z
-      shut false y f h = let z : ◌≡◌ {A = ℕ} 0 1 = cc in clash z
+      shut : (b : Bool) (y : Refusal) → pick {A = Gate} b (Ok tt) (Err (refusal 2)) ≡ Err y → No y ≡ No NoRoom → TooFull t len
+      shut true y f h = clash cc
+      shut false y f h = clash cc

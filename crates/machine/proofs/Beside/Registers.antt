@@ -7,7 +7,7 @@ use Rattle.table.specs.declared.Place.{Place}
 use Rattle.table.specs.declared.Place.TheVariants.{Idle}
 use Rattle.table.specs.declared.Task.{Task}
 use Rattle.table.specs.declared.Holding.{Holding}
-use Rattle.table.specs.declared.Holding.TheVariants.{Rests, Asks, Free, Job, Claim, Both}
+use Rattle.table.specs.declared.Holding.TheVariants.{Rests}
 use Rattle.table.specs.declared.Table.{Table}
 use Rattle.table.specs.declared.Answer.TheVariants.{Done, Report}
 use Rattle.machine.specs.History.{History}
@@ -25,7 +25,6 @@ use Rattle.machine.proofs.Objects.BeginSteps.{register_inv, root_inv}
 use Rattle.machine.proofs.Agree.Holdings.{at_holding, idle_only}
 use Rattle.machine.proofs.Agree.Complete.{is_idle, task_in, move_of_lem, clear_of_lem, put_root_of_lem, get_root_of_lem, report_of_lem, same_of_lem}
 use Rattle.machine.proofs.Agree.Regs.{register_agree, root_agree}
-use Rattle.machine.proofs.Agree.Enter.{map_set}
 use Rattle.machine.proofs.Beside.Still.{number, DoingAt, StillTask}
 use Rattle.machine.proofs.Beside.StillLaws.{still_owner, still_register, still_root, still_reroot}
 use Rattle.machine.proofs.Objects.CountLaws.{counts_same}
@@ -33,14 +32,11 @@ use Rattle.machine.proofs.Beside.Awake.{due_same, due_roots}
 use Rattle.machine.proofs.Beside.Collects.{collects}
 use Rattle.machine.proofs.Beside.Good.{Good}
 use Rattle.machine.proofs.Beside.Completes.{Meant, choose, two}
+use Rattle.std.proofs.lemmas.List.{map-set}
 
 idle_held : (pa : ℕ → ℕ) (h : Holding) → idle_of (at_holding pa h) ≡ idle_of h
 idle_held pa Rests = refl
-idle_held pa Asks = refl
-idle_held pa Free = refl
-idle_held pa (Job x i) = refl
-idle_held pa (Claim p) = refl
-idle_held pa (Both p x i) = refl
+idle_held pa _ = refl
 
 resting_at : (e : Task) (d : Doing) (pl : Place) → pl ≡ Idle → DoingAt e d pl → d ≡ resting
 resting_at e d pl pe h = rw pe at h
@@ -74,7 +70,7 @@ module _ {l : Limits} {w : Store} {hy : History} {t : Table} {ws : List ℕ} (g 
     home = g.home;
     agree = register_agree g.inv g.agree task ip r x;
     still = still_owner g.still task (task_in g.agree task ip) e _ (record {
-      regs = rw q.regs (sym (map_set number (g.objects.tasks task).regs r (primary x)));
+      regs = rw q.regs (sym (map-set number (g.objects.tasks task).regs r (primary x)));
       pending = q.pending;
       goes_to = q.goes_to;
       doing = rw pe (rests_at task ip pe);

@@ -16,7 +16,7 @@ use Rattle.table.specs.declared.Answer.TheVariants.{Done}
 use Rattle.table.specs.declared.Table.{Table}
 use Rattle.machine.specs.History.{Copy, History, copy}
 use Rattle.machine.specs.Basics.{pick}
-use Rattle.machine.specs.Words.{replica}
+use Rattle.machine.specs.Words.{replica, slot_at}
 use Rattle.machine.specs.Entries.{task_at, marks_at}
 use Rattle.machine.specs.Deeds.{acted}
 use Rattle.machine.specs.Switch.{ended_entry}
@@ -60,33 +60,33 @@ released m ws n x k r len a b c =
     on true = refl
     on false = refl
 
-one_job : (pl : Place) (n : ℕ) (x : Primary) (k : ℕ) → pl ≡ Release n x k → jobs_in (holding_of pl) ≡ 1
+one_job : (pl : Place) (n : ℕ) (x : Primary) (k : ℕ) → pl ≡ Release n (slot_at x k) → jobs_in (holding_of pl) ≡ 1
 unfolding holding_of
 one_job pl n x k e = rw e refl
 
 module _ {l : Limits} {w : Store} {hy : History} {t : Table} {ws : List ℕ} (g : Good l w hy t ws) (i : ℕ) (ip : i < t.limits.p) (X : Type 0) (n : ℕ) (x : Primary) (k : ℕ)
-    (pe : (g.objects.tasks i).place ≡ Release n x k) where
+    (pe : (g.objects.tasks i).place ≡ Release n (slot_at x k)) where
   live : g.objects.on ≡ true
-  live = (at_place_lem g.inv i (Release n x k) pe).0
+  live = (at_place_lem g.inv i (Release n (slot_at x k)) pe).0
 
   lock : g.objects.hd x.0 ≡ locked k i
-  lock = (at_place_lem g.inv i (Release n x k) pe).2
+  lock = (at_place_lem g.inv i (Release n (slot_at x k)) pe).2
 
   job : 1 ≤ t.marks.j
   job = let a = one_job (g.objects.tasks i).place n x k pe in omega (arith, job_counted g.agree i ip)
 
   -- more to pay
   goes_on : n ≢ 1
-      → Comes l w hy t ws i (at_place g.pa g.ra (Release n x k)) X
+      → Comes l w hy t ws i (at_place g.pa g.ra (Release n (slot_at x k))) X
       (settle t i (acted (Goes (freed t.marks k) (Take (n - 1))) (unlocked t.marks ws (g.ra x.0) (g.pa x.0) k)))
   unfolding settle_of happen_all holding_of
   goes_on d =
-      comes_moved g i (below g i ip) (at_place g.pa g.ra (Release n x k)) X g.kept g.pa g.ra
+      comes_moved g i (below g i ip) (at_place g.pa g.ra (Release n (slot_at x k))) X g.kept g.pa g.ra
       (heads g.objects x.0 (count k) (push k x.0 g.objects.stack) i (goes (g.objects.tasks i) (Take (n - 1)))) live _ _ _
       (goes (g.objects.tasks i) (Take (n - 1))) _ (moved_goes g i ip (freed t.marks k) (Take (n - 1)))
-      (releases g.objects i n x k (n - 1) g.inv ip pe (omega (arith, (at_place_lem g.inv i (Release n x k) pe).1)))
+      (releases g.objects i n x k (n - 1) g.inv ip pe (omega (arith, (at_place_lem g.inv i (Release n (slot_at x k)) pe).1)))
       (release_agree g.inv g.agree i ip (goes (g.objects.tasks i) (Take (n - 1))) x.0 k lock live (rw pe (omega (arith, job))))
-      (still_goes g.still i (below g i ip) (Take (n - 1)) (busy_at g i ip (Release n x k) pe tt)) ip tt (copy (g.pa x.0) k ∷ hy.copies) refl
+      (still_goes g.still i (below g i ip) (Take (n - 1)) (busy_at g i ip (Release n (slot_at x k)) pe tt)) ip tt (copy (g.pa x.0) k ∷ hy.copies) refl
       (let c = g.collecting live in
       record {
         made = copy x.0 k ∷ c.made;
@@ -97,11 +97,11 @@ module _ {l : Limits} {w : Store} {hy : History} {t : Table} {ws : List ℕ} (g 
       })
 
   -- the last copy
-  ends_it : n ≡ 1 → Comes l w hy t ws i (at_place g.pa g.ra (Release n x k)) X
+  ends_it : n ≡ 1 → Comes l w hy t ws i (at_place g.pa g.ra (Release n (slot_at x k))) X
       (settle t i (acted (Ends (freed t.marks k)) (unlocked t.marks ws (g.ra x.0) (g.pa x.0) k)))
   unfolding settle_of happen_all
   ends_it last =
-      finishes g i (at_place g.pa g.ra (Release n x k)) X g.kept g.pa g.ra
+      finishes g i (at_place g.pa g.ra (Release n (slot_at x k))) X g.kept g.pa g.ra
       (heads g.objects x.0 (count k) (push k x.0 g.objects.stack) i (ended_entry (g.objects.tasks i).regs (g.objects.tasks i).pending))
       (unlocked t.marks ws (g.ra x.0) (g.pa x.0) k) (freed t.marks k) (task_at t i).pending Done
       (with_owner w i (ends_owner (owner_at w i) (thing_at w (owner_at w i).pending))) tt (λ after. refl) (release_ends g.objects i n x k g.inv ip pe)
@@ -117,17 +117,17 @@ module _ {l : Limits} {w : Store} {hy : History} {t : Table} {ws : List ℕ} (g 
         lived = lived_same c.lived (copy (g.pa x.0) k ∷ hy.copies);
       }) (λ f. off_on (sym f ∙ live))
 
-  pub release_comes : Comes l w hy t ws i (at_place g.pa g.ra (Release n x k)) X (settle t i (release_of t.marks ws t.limits.s n (at_primary g.pa x) k))
+  pub release_comes : Comes l w hy t ws i (at_place g.pa g.ra (Release n (slot_at x k))) X (settle t i (release_of t.marks ws t.limits.s n (at_primary g.pa x) k))
   unfolding release_of
   release_comes =
       rw (
         look_placed g.inv g.agree x.0 (held g i ip X n x k live lock) (placed g i ip X n x k live lock),
         released t.marks ws n (at_primary g.pa x) k (g.ra x.0) (g.objects.shape.len x.0) (short g i ip X n x k live lock) job
-            (at_place_lem g.inv i (Release n x k) pe).1,
+            (at_place_lem g.inv i (Release n (slot_at x k)) pe).1,
       )
       (on (eqb n 1) refl)
     where
-      on : (b : Bool) → eqb n 1 ≡ b → Comes l w hy t ws i (at_place g.pa g.ra (Release n x k)) X
+      on : (b : Bool) → eqb n 1 ≡ b → Comes l w hy t ws i (at_place g.pa g.ra (Release n (slot_at x k))) X
           (settle t i (acted (pick b (Ends (freed t.marks k)) (Goes (freed t.marks k) (Take (n - 1)))) (unlocked t.marks ws (g.ra x.0) (g.pa x.0) k)))
       on true e = ends_it (eqb-true n 1 e)
       on false e = goes_on (eqb-false n 1 e)

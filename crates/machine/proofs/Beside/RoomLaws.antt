@@ -86,10 +86,8 @@ placed_true (count c) s = refl
 placed_true (locked i t) s = refl
 
 true_seen : (h : Hd) → is_placed h ≡ true → IsSeen h
-true_seen white e = let z : ◌≡◌ {A = ℕ} 0 1 = cc in clash z
-true_seen (claimed t) e = tt
-true_seen (count c) e = tt
-true_seen (locked i t) e = tt
+true_seen white e = clash cc
+true_seen _ e = tt
 
 -- of a placed object that the flip found
 pub old_words_lem : (sh : Shape) (g : Snapshot) (hd : ℕ → Hd) (x : ℕ) → 0 < x → x ≤ g.n → IsPlaced (hd x) → old_words sh g hd x ≡ sh.len x + 2

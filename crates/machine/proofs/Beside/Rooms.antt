@@ -1,19 +1,18 @@
 -- With enough room no call answers 9 or 10: one call, in a state of a collection or just before its flip.
-use Rattle.std.specs.Prelude.{ℕ, ◌+◌, ◌*◌, ◌/◌, ◌≤◌, ◌<◌, ◌≡◌, refl, ◌≢◌, List, Bool, true, false, length, ltb}
+use Rattle.std.specs.Prelude.{ℕ, ◌+◌, ◌*◌, ◌/◌, ◌≤◌, ◌<◌, ◌≡◌, refl, ◌≢◌, List, Bool, true, false, length, ltb, None}
 use Rattle.std.proofs.Common.{ap, sym, ◌∙◌, inl, inr, arith, ltb-true}
 use Rattle.std.proofs.Math.Decide.{ℕ_discrete}
 use Rattle.table.specs.declared.Limits.{Limits}
 use Rattle.table.specs.declared.Place.{Place}
-use Rattle.table.specs.declared.Place.TheVariants.{Idle, New, Asked, FillWrite, FillCopy, StoreWrite, Meet, StoreCopy, Take, Read, Put, Release, Looking, Placing}
+use Rattle.table.specs.declared.Place.TheVariants.{New, Asked, Placing}
 use Rattle.table.specs.declared.Task.{Task}
 use Rattle.table.specs.declared.Table.{Table}
-use Rattle.table.specs.declared.Object.TheVariants.{Whole}
+use Rattle.machine.proofs.Parts.{described_is}
 use Rattle.table.specs.declared.Refusal.TheVariants.{NoTask, NoRoom, Exhausted}
 use Rattle.table.specs.declared.Answer.TheVariants.{No}
 use Rattle.machine.specs.Entries.{task_at, Ends}
 use Rattle.machine.specs.Step.{step_of}
 use Rattle.table.specs.declared.Sought.TheVariants.{Blocker}
-use Rattle.table.specs.declared.Found.TheVariants.{Nobody}
 use Rattle.machine.specs.Tasks.{seek_of}
 use Rattle.machine.specs.Sum.{room_sum}
 use Rattle.machine.specs.Call.{Call}
@@ -21,7 +20,7 @@ use Rattle.machine.specs.Calls.{then}
 use Rattle.machine.specs.StillStore.{Store}
 use Rattle.machine.specs.History.{History}
 use Rattle.machine.specs.Live.Live.{live_of, size_of}
-use Rattle.machine.proofs.Objects.Base.{off_on}
+use Rattle.machine.proofs.Objects.Base.{off_on, clash}
 use Rattle.machine.proofs.Objects.MoveLaws.{at_place_lem}
 use Rattle.machine.proofs.Objects.Flipped.{Restful}
 use Rattle.machine.proofs.Agree.Encode.{at_place}
@@ -40,10 +39,6 @@ use Rattle.machine.proofs.Beside.Run.{Well, Proceeds, proceeds}
 use Rattle.machine.proofs.Beside.Demand2.{not_spent}
 use Rattle.machine.specs.Beside.Rooms.{Suits}
 
--- an object has one length
-one_length : (len m a b : ℕ) → Whole len m ≡ Whole a b → len ≡ a
-one_length len m a b e = cc
-
 module _ {l : Limits} {w : Store} {hy : History} {t : Table} {ws : List ℕ} (g : Good l w hy t ws) where
   -- collecting, with demand 3's sum for what lived at the flip
   module _ (on : t.on ≡ true) (enough : room_sum hy.words (length hy.live) t.limits.k t.limits.p t.limits.s ≤ t.limits.h) where
@@ -54,45 +49,23 @@ module _ {l : Limits} {w : Store} {hy : History} {t : Table} {ws : List ℕ} (g 
     sum = rw (sum_out hy.words (length hy.live) t.limits.k t.limits.p t.limits.s) at enough
 
     place_never : (i : ℕ) → i < t.limits.p → (pl : Place) → (g.objects.tasks i).place ≡ pl → WantsRoom t ws i (at_place g.pa g.ra pl) → ⊥
-    place_never i ip Idle pe h = h
-    place_never i ip (New r len m) pe h = off_on (sym h.0 ∙ on)
-    place_never i ip (Asked r len m) pe h = off_on (sym h.0 ∙ on)
-    place_never i ip (FillWrite v) pe h = h
-    place_never i ip (FillCopy c) pe h = h
-    place_never i ip (StoreWrite v) pe h = h
-    place_never i ip (Meet v) pe h = h
-    place_never i ip (StoreCopy c) pe h = h
-    place_never i ip (Take n) pe h = h
-    place_never i ip (Read n x k) pe h = h
-    place_never i ip (Put n x k c) pe h = h
-    place_never i ip (Release n x k) pe h = h
-    place_never i ip (Looking q th) pe h = h
+    place_never i ip (New want) pe h = off_on (sym h.0 ∙ on)
+    place_never i ip (Asked want) pe h = off_on (sym h.0 ∙ on)
     place_never i ip (Placing q th) pe h =
         let z = at_place_lem g.inv i (Placing q th) pe in
-        let e = one_length h.0 h.1 (g.objects.shape.len q.0) (g.objects.shape.ptr q.0)
-        (sym h.2 ∙ object_of_lem g.inv g.agree q.0 (sound_held g.kept g.objects.shape q.0 z.1 z.2)) in
+        let e = (described_is h.0 h.1 (g.objects.shape.len q.0) (g.objects.shape.ptr q.0)
+        (sym h.2 ∙ object_of_lem g.inv g.agree q.0 (sound_held g.kept g.objects.shape q.0 z.1 z.2))).0 in
         place_fits g.inv g.agree live (g.collecting live) sum i q th pe ip (rw e at h.3)
+    place_never i ip _ pe h = h
 
     new_never : (i : ℕ) → i < t.limits.p → (pl : Place) → (g.objects.tasks i).place ≡ pl → Crowded t (at_place g.pa g.ra pl) → ⊥
-    new_never i ip Idle pe h = h
-    new_never i ip (New r len m) pe h =
-        let z = new_room g.inv g.agree live (g.collecting live) sum i r len m pe ip in
+    new_never i ip (New want) pe h =
+        let z = new_room g.inv g.agree live (g.collecting live) sum i want.register want.len want.m pe ip in
         omega (arith, z, h.1)
-    new_never i ip (Asked r len m) pe h = h
-    new_never i ip (FillWrite v) pe h = h
-    new_never i ip (FillCopy c) pe h = h
-    new_never i ip (StoreWrite v) pe h = h
-    new_never i ip (Meet v) pe h = h
-    new_never i ip (StoreCopy c) pe h = h
-    new_never i ip (Take n) pe h = h
-    new_never i ip (Read n x k) pe h = h
-    new_never i ip (Put n x k c) pe h = h
-    new_never i ip (Release n x k) pe h = h
-    new_never i ip (Looking q th) pe h = h
-    new_never i ip (Placing q th) pe h = h
+    new_never i ip _ pe h = h
 
   -- nobody stands in the way of task i, which is at rest itself
-  all_rest : (i : ℕ) → seek_of t.tasks t.limits.p (Blocker i) ≡ Nobody → Restful (g.objects.tasks i).place → (u : ℕ) → Restful (g.objects.tasks u).place
+  all_rest : (i : ℕ) → seek_of t.tasks t.limits.p (Blocker i) ≡ None → Restful (g.objects.tasks i).place → (u : ℕ) → Restful (g.objects.tasks u).place
   all_rest i none r u = at (ℕ_discrete u i)
     where
       at : Dec (u ≡ i) → Restful (g.objects.tasks u).place
@@ -105,20 +78,10 @@ module _ {l : Limits} {w : Store} {hy : History} {t : Table} {ws : List ℕ} (g 
     rests = sym g.agree.on ∙ off
 
     flip_never : (i : ℕ) → i < t.limits.p → (pl : Place) → (g.objects.tasks i).place ≡ pl → WantsRoom t ws i (at_place g.pa g.ra pl) → ⊥
-    flip_never i ip Idle pe h = h
-    flip_never i ip (New r len m) pe h = flip_fits_live g.inv g.agree rests (all_rest i h.1 (rw pe tt)) (g.home rests) enough h.2
-    flip_never i ip (Asked r len m) pe h = flip_fits_live g.inv g.agree rests (all_rest i h.1 (rw pe tt)) (g.home rests) enough h.2
-    flip_never i ip (FillWrite v) pe h = h
-    flip_never i ip (FillCopy c) pe h = h
-    flip_never i ip (StoreWrite v) pe h = h
-    flip_never i ip (Meet v) pe h = h
-    flip_never i ip (StoreCopy c) pe h = h
-    flip_never i ip (Take n) pe h = h
-    flip_never i ip (Read n x k) pe h = h
-    flip_never i ip (Put n x k c) pe h = h
-    flip_never i ip (Release n x k) pe h = h
-    flip_never i ip (Looking q th) pe h = h
+    flip_never i ip (New want) pe h = flip_fits_live g.inv g.agree rests (all_rest i h.1 (rw pe tt)) (g.home rests) enough h.2
+    flip_never i ip (Asked want) pe h = flip_fits_live g.inv g.agree rests (all_rest i h.1 (rw pe tt)) (g.home rests) enough h.2
     flip_never i ip (Placing q th) pe h = off_on (sym rests ∙ (at_place_lem g.inv i (Placing q th) pe).0)
+    flip_never i ip _ pe h = h
 
 -- a step of no task is refused as that
 none_steps : {l : Limits} {w : Store} {hy : History} {t : Table} {ws : List ℕ} → Good l w hy t ws → (i : ℕ) → ltb i t.limits.p ≡ false → (step_of t ws i).out.answer ≡ No NoTask
@@ -137,51 +100,29 @@ suits : (l : Limits) (w : Store) (hy : History) (c : Call) (e : Ends) → Good l
 suits l w hy c e g a b = (nine c, ten c)
   where
     one_answer : No NoTask ≡ No Exhausted → ⊥
-    one_answer q = let z : ◌≡◌ {A = ℕ} 0 1 = cc in absurd (omega arith)
+    one_answer q = clash cc
 
     other_answer : No NoTask ≡ No NoRoom → ⊥
-    other_answer q = let z : ◌≡◌ {A = ℕ} 0 1 = cc in absurd (omega arith)
+    other_answer q = clash cc
 
     last_answer : No Exhausted ≡ No NoRoom → ⊥
-    last_answer q = let z : ◌≡◌ {A = ℕ} 0 1 = cc in absurd (omega arith)
+    last_answer q = clash cc
 
     spends : (c : Call) → (then c e).out.answer ≡ No Exhausted → Spends c e.out.table e.words → ⊥
-    spends (Call.New task r len m) q h = h
-    spends (Call.Fill task v) q h = h
-    spends (Call.FillPointer task r) q h = h
-    spends (Call.Load task to from slot) q h = h
-    spends (Call.Store task o slot v) q h = h
-    spends (Call.StorePointer task o slot r) q h = h
-    spends (Call.Move task to from) q h = h
-    spends (Call.Clear task r) q h = h
-    spends (Call.Same task x y) q h = h
-    spends (Call.Put task root r) q h = h
-    spends (Call.Get task r root) q h = h
     spends (Call.Step i) q h = on (ltb i e.out.table.limits.p) refl
       where
         on : (d : Bool) → ltb i e.out.table.limits.p ≡ d → ⊥
         on true d = a i (ltb-true i e.out.table.limits.p d) h
         on false d = one_answer (sym (none_steps g i d) ∙ q)
-    spends Call.Report q h = h
+    spends _ q h = h
 
     crowds : (c : Call) → Well c e.out.table (then c e).out.answer → (then c e).out.answer ≢ No NoRoom
-    crowds (Call.New task r len m) h q = rw q at h
-    crowds (Call.Fill task v) h q = rw q at h
-    crowds (Call.FillPointer task r) h q = rw q at h
-    crowds (Call.Load task to from slot) h q = rw q at h
-    crowds (Call.Store task o slot v) h q = rw q at h
-    crowds (Call.StorePointer task o slot r) h q = rw q at h
-    crowds (Call.Move task to from) h q = rw q at h
-    crowds (Call.Clear task r) h q = rw q at h
-    crowds (Call.Same task x y) h q = rw q at h
-    crowds (Call.Put task root r) h q = rw q at h
-    crowds (Call.Get task r root) h q = rw q at h
     crowds (Call.Step i) h q = on (ltb i e.out.table.limits.p) refl
       where
         on : (d : Bool) → ltb i e.out.table.limits.p ≡ d → ⊥
         on true d = b i (ltb-true i e.out.table.limits.p d) (rw q at h)
         on false d = other_answer (sym (none_steps g i d) ∙ q)
-    crowds Call.Report h q = rw q at h
+    crowds _ h q = rw q at h
 
     ten : (c : Call) → (then c e).out.answer ≢ No Exhausted
     ten c q = on (proceeds l w hy c e g)
@@ -212,17 +153,5 @@ suits_off l w hy c e g off enough =
     (λ i ip h. crowd_off i (task_at e.out.table i).place h)
   where
     crowd_off : (i : ℕ) (pl : Place) → Crowded e.out.table pl → ⊥
-    crowd_off i Idle h = h
-    crowd_off i (New r len m) h = off_on (sym off ∙ h.0)
-    crowd_off i (Asked r len m) h = h
-    crowd_off i (FillWrite v) h = h
-    crowd_off i (FillCopy c) h = h
-    crowd_off i (StoreWrite v) h = h
-    crowd_off i (Meet v) h = h
-    crowd_off i (StoreCopy c) h = h
-    crowd_off i (Take n) h = h
-    crowd_off i (Read n x k) h = h
-    crowd_off i (Put n x k c) h = h
-    crowd_off i (Release n x k) h = h
-    crowd_off i (Looking q th) h = h
-    crowd_off i (Placing q th) h = h
+    crowd_off i (New want) h = off_on (sym off ∙ h.0)
+    crowd_off i _ h = h

@@ -1,5 +1,5 @@
 -- Calls in a row: as long as the heap is not exhausted, table and store stand side by side.
-use Rattle.std.specs.Prelude.{ℕ, ◌<◌, ◌≡◌, refl, ◌⊎◌, List, [], ◌∷◌, Bool}
+use Rattle.std.specs.Prelude.{ℕ, ◌<◌, ◌≡◌, refl, ◌⊎◌, List, [], ◌∷◌, Bool, Ok, Err}
 use Rattle.std.proofs.Common.{ap, inl, ltb-true}
 use Rattle.std.proofs.Math.Logic.{inr}
 use Rattle.std.proofs.Math.Bool.{true, false}
@@ -8,9 +8,8 @@ use Rattle.table.specs.declared.Limits.{Limits}
 use Rattle.table.specs.declared.Task.{Task}
 use Rattle.table.specs.declared.Table.{Table}
 use Rattle.table.specs.declared.Refusal.TheVariants.{Exhausted}
-use Rattle.table.specs.declared.Gate.TheVariants.{Open, Shut}
 use Rattle.table.specs.declared.Answer.{Answer}
-use Rattle.table.specs.declared.Answer.TheVariants.{Accepted, Done, Value, Moved, Wait, Report, No}
+use Rattle.table.specs.declared.Answer.TheVariants.{No}
 use Rattle.machine.specs.History.{History, history_after, history_of}
 use Rattle.machine.specs.Basics.{pick}
 use Rattle.machine.specs.Numbers.{refusal}
@@ -18,7 +17,7 @@ use Rattle.machine.specs.Entries.{task_at, no, Ends, ends}
 use Rattle.machine.specs.Step.{step_through, task_step_of, step_of}
 use Rattle.machine.specs.Call.{Call}
 use Rattle.machine.specs.Calls.{then, run}
-use Rattle.machine.specs.StillStore.{Store, Kind, told, happen_all}
+use Rattle.machine.specs.StillStore.{Store, happen_all}
 use Rattle.machine.specs.Kinds.{follows, beside, step_kinds}
 use Rattle.machine.proofs.Agree.Gates.{call_gate_lem}
 use Rattle.machine.specs.Beside.Room.{WantsRoom}
@@ -28,6 +27,7 @@ use Rattle.machine.proofs.Beside.Glue.{entry_of}
 use Rattle.machine.proofs.Beside.Steps.{step_at}
 use Rattle.machine.proofs.Beside.Calls.{call_keeps}
 use Rattle.machine.specs.Beside.Run.{Spends, Living}
+use Rattle.machine.proofs.Beside.SlotsStay.{told_step}
 
 -- the answer is neither 10 nor 11, and 9 only comes to a step of a New for want of room
 abbrev pub Well : Call → Table → Answer → Type 0
@@ -51,16 +51,6 @@ Proceeds l w hy c e =
     (((then c e).out.answer ≡ No Exhausted) × Spends c e.out.table e.words)
     ⊎ (Good l (follows w c e (then c e)) (history_after c e (then c e) hy) (then c e).out.table (then c e).words × Well c e.out.table (then c e).out.answer)
 
--- the store is told of a step by its kinds alone
-told_step : (w : Store) (i : ℕ) (x : Answer) (ks : List Kind) → told w (Call.Step i) x ks ≡ happen_all w i ks
-told_step w i Accepted ks = refl
-told_step w i Done ks = refl
-told_step w i (Value v) ks = refl
-told_step w i Moved ks = refl
-told_step w i (Wait q) ks = refl
-told_step w i (Report on live copies) ks = refl
-told_step w i (No x) ks = refl
-
 module _ {l : Limits} {w : Store} {hy : History} {t : Table} {ws : List ℕ} (g : Good l w hy t ws) (i : ℕ) where
   -- a step of one of the tasks, and of none
   task_comes : i < t.limits.p → Comes l w hy t ws i (task_at t i).place (WantsRoom t ws i (task_at t i).place) (task_step_of t ws i)
@@ -72,7 +62,7 @@ module _ {l : Limits} {w : Store} {hy : History} {t : Table} {ws : List ℕ} (g 
   step_comes = rw (call_gate_lem g.agree g.long i) (on (ltb i t.limits.p) refl)
     where
       on : (b : Bool) → ltb i t.limits.p ≡ b
-          → Comes l w hy t ws i (task_at t i).place (WantsRoom t ws i (task_at t i).place) (step_through (pick b Open (Shut (refusal 2))) t ws (task_step_of t ws i))
+          → Comes l w hy t ws i (task_at t i).place (WantsRoom t ws i (task_at t i).place) (step_through (pick b (Ok tt) (Err (refusal 2))) t ws (task_step_of t ws i))
       on true e = task_comes (ltb-true i t.limits.p e)
       on false e =
           inr (rw (history_is t ws (task_at t i).place (ends (no t 2) ws) hy hy.copies (as_it_was t.on) (no_copy (task_at t i).place (no t 2).answer hy.copies refl)) g, tt)

@@ -1,29 +1,24 @@
 -- What each action of a step may wait for: a look for the claimer, a meet for the claimer or for the holder of its own slot; the others for nobody.
-use Rattle.std.specs.Prelude.{ℕ, ◌-◌, ◌≡◌, refl, ◌⊎◌, List, Bool, get_or, ltb, leb, eqb}
+use Rattle.std.specs.Prelude.{ℕ, ◌-◌, ◌≡◌, refl, ◌⊎◌, List, Bool, get_or, ltb, leb, eqb, Option, Some, None}
 use Rattle.std.proofs.Common.{ap, ◌∙◌, inl, inr, eqb-true}
 use Rattle.table.specs.declared.Primary.{Primary}
 use Rattle.table.specs.declared.Replica.{Replica}
 use Rattle.table.specs.declared.Marks.{Marks}
+use Rattle.machine.specs.Entries.{storing_on}
+use Rattle.table.specs.declared.Descriptor.{Descriptor}
+use Rattle.table.specs.declared.Making.{Making}
+use Rattle.table.specs.declared.Slot.{Slot}
 use Rattle.table.specs.declared.Operand.{Operand}
-use Rattle.table.specs.declared.Copied.{Copied}
-use Rattle.table.specs.declared.Pending.{Pending}
-use Rattle.table.specs.declared.Pending.TheVariants.{Nothing, Making}
-use Rattle.table.specs.declared.Storing.{Storing}
-use Rattle.table.specs.declared.Storing.TheVariants.{Nowhere, Slot}
 use Rattle.table.specs.declared.Then.{Then}
-use Rattle.table.specs.declared.Object.{Object}
-use Rattle.table.specs.declared.Object.TheVariants.{Whole, Torn}
 use Rattle.table.specs.declared.Look.{Look}
 use Rattle.table.specs.declared.Look.TheVariants.{White, Claimed, Forwarded, Lost}
 use Rattle.table.specs.declared.Copying.{Copying}
 use Rattle.table.specs.declared.Copying.TheVariants.{Count, Locked, Neither}
-use Rattle.table.specs.declared.Placed.{Placed}
-use Rattle.table.specs.declared.Placed.TheVariants.{Twin, Full}
 use Rattle.table.specs.declared.Sought.{Sought}
 use Rattle.table.specs.declared.Sought.TheVariants.{Claimer, Holder}
 use Rattle.table.specs.declared.Deed.{Deed}
 use Rattle.table.specs.declared.Deed.TheVariants.{Goes, GoesWith, Ends, EndsWith, Waits, Fails}
-use Rattle.machine.specs.Words.{primary, object_of, look_of, if_forwarded, copying_of}
+use Rattle.machine.specs.Words.{primary, object_of, look_of, if_forwarded, copying_of, slot_at}
 use Rattle.machine.specs.Deeds.{Acted, acted}
 use Rattle.machine.specs.Look.{go_on, unplaced_case, look_step_of, place_of, placed_then, place_case, place_step_of}
 use Rattle.machine.specs.Fill.{fill_write_in, fill_write_of, fill_copy_in, fill_copy_of}
@@ -66,9 +61,9 @@ look_seeks m ws s p th = on (look_of ws s p) refl
 abbrev pub MeetSeeks : List ℕ → ℕ → Primary → ℕ → Sought → Type 0
 MeetSeeks ws s x i w =
     LookSeeks ws s x w
-    ⊎ ((w ≡ Holder x i) × (r : Replica) × (len : ℕ) × (look_of ws s x ≡ Forwarded r len) × (copying_of len (get_or ws (r.0 - 1) 0) ≡ Locked i))
+    ⊎ ((w ≡ Holder (slot_at x i)) × (r : Replica) × (len : ℕ) × (look_of ws s x ≡ Forwarded r len) × (copying_of len (get_or ws (r.0 - 1) 0) ≡ Locked i))
 
-pub meet_seeks : (m : Marks) (ws : List ℕ) (s k : ℕ) (x : Primary) (i : ℕ) (v : Operand) → SeeksIn (MeetSeeks ws s x i) (meet_of m ws s k (Slot x i) v)
+pub meet_seeks : (m : Marks) (ws : List ℕ) (s k : ℕ) (x : Primary) (i : ℕ) (v : Operand Primary) → SeeksIn (MeetSeeks ws s x i) (meet_of m ws s k (storing_on x i) v)
 unfolding meet_of
 meet_seeks m ws s k x i v = on (look_of ws s x) refl
   where
@@ -89,43 +84,43 @@ pub place_seeks : (m : Marks) (end : ℕ) (ws : List ℕ) (s : ℕ) (p : Primary
 unfolding place_step_of
 place_seeks m end ws s p th = whole (object_of ws s p)
   where
-    placed : (x : Placed) (ws' : List ℕ) → SeeksIn NoTask (placed_then th x ws')
-    placed (Twin n r) ws' = tt
-    placed Full ws' = tt
+    placed : (x : Option (Marks × Replica)) (ws' : List ℕ) → SeeksIn NoTask (placed_then th x ws')
+    placed (Some (n, r)) ws' = tt
+    placed None ws' = tt
 
-    whole : (x : Object) → SeeksIn NoTask (place_case m end ws p th x)
-    whole (Whole len k) = placed (place_of m end ws p len len).placed (place_of m end ws p len len).words
-    whole Torn = tt
+    whole : (x : Option Descriptor) → SeeksIn NoTask (place_case m end ws p th x)
+    whole (Some o) = placed (place_of m end ws p o.len o.len).placed (place_of m end ws p o.len o.len).words
+    whole None = tt
 
-pub fill_write_seeks : (on : Bool) (m : Marks) (ws : List ℕ) (s : ℕ) (d : Pending) (v : Operand) → SeeksIn NoTask (fill_write_of on m ws s d v)
+pub fill_write_seeks : (on : Bool) (m : Marks) (ws : List ℕ) (s : ℕ) (d : Option Making) (v : Operand Primary) → SeeksIn NoTask (fill_write_of on m ws s d v)
 unfolding fill_write_of
-fill_write_seeks on m ws s Nothing v = tt
-fill_write_seeks on m ws s (Making p r len f) v = whole (object_of ws s p)
+fill_write_seeks on m ws s None v = tt
+fill_write_seeks on m ws s (Some d) v = whole (object_of ws s d.at)
   where
-    whole : (x : Object) → SeeksIn NoTask (fill_write_in on m ws p r len f v x)
-    whole (Whole l k) = pick_all (SeeksIn NoTask) (leb l f) _ _ (λ e. tt) (λ e. pick_all (SeeksIn NoTask) on _ _ (λ h. tt) (λ h. tt))
-    whole Torn = tt
+    whole : (x : Option Descriptor) → SeeksIn NoTask (fill_write_in on m ws d.at d.register d.len d.filled v x)
+    whole (Some o) = pick_all (SeeksIn NoTask) (leb o.len d.filled) _ _ (λ e. tt) (λ e. pick_all (SeeksIn NoTask) on _ _ (λ h. tt) (λ h. tt))
+    whole None = tt
 
-pub fill_copy_seeks : (m : Marks) (ws : List ℕ) (s k : ℕ) (d : Pending) (c : Copied) → SeeksIn NoTask (fill_copy_of m ws s k d c)
+pub fill_copy_seeks : (m : Marks) (ws : List ℕ) (s k : ℕ) (d : Option Making) (c : Operand Replica) → SeeksIn NoTask (fill_copy_of m ws s k d c)
 unfolding fill_copy_of
-fill_copy_seeks m ws s k Nothing c = tt
-fill_copy_seeks m ws s k (Making p r len f) c =
-    forwarded_all (SeeksIn NoTask) (look_of ws s p) (fill_copy_in m ws k p r len f c) _ (λ q l. pick_all (SeeksIn NoTask) (leb l f) _ _ (λ e. tt) (λ e. tt)) tt
+fill_copy_seeks m ws s k None c = tt
+fill_copy_seeks m ws s k (Some d) c =
+    forwarded_all (SeeksIn NoTask) (look_of ws s d.at) (fill_copy_in m ws k d.at d.register d.len d.filled c) _ (λ q l. pick_all (SeeksIn NoTask) (leb l d.filled) _ _ (λ e. tt) (λ e. tt)) tt
 
-pub store_write_seeks : (on : Bool) (m : Marks) (ws : List ℕ) (s : ℕ) (d : Storing) (v : Operand) → SeeksIn NoTask (store_write_of on m ws s d v)
+pub store_write_seeks : (on : Bool) (m : Marks) (ws : List ℕ) (s : ℕ) (d : Option Slot) (v : Operand Primary) → SeeksIn NoTask (store_write_of on m ws s d v)
 unfolding store_write_of
-store_write_seeks on m ws s Nowhere v = tt
-store_write_seeks on m ws s (Slot x i) v = whole (object_of ws s x)
+store_write_seeks on m ws s None v = tt
+store_write_seeks on m ws s (Some at) v = whole (object_of ws s at.object)
   where
-    whole : (y : Object) → SeeksIn NoTask (store_write_in on m ws x i v y)
-    whole (Whole len k) = pick_all (SeeksIn NoTask) (leb len i) _ _ (λ e. tt) (λ e. pick_all (SeeksIn NoTask) on _ _ (λ h. tt) (λ h. tt))
-    whole Torn = tt
+    whole : (y : Option Descriptor) → SeeksIn NoTask (store_write_in on m ws at.object at.index v y)
+    whole (Some o) = pick_all (SeeksIn NoTask) (leb o.len at.index) _ _ (λ e. tt) (λ e. pick_all (SeeksIn NoTask) on _ _ (λ h. tt) (λ h. tt))
+    whole None = tt
 
-pub store_copy_seeks : (m : Marks) (ws : List ℕ) (s k : ℕ) (d : Storing) (c : Copied) → SeeksIn NoTask (store_copy_of m ws s k d c)
+pub store_copy_seeks : (m : Marks) (ws : List ℕ) (s k : ℕ) (d : Option Slot) (c : Operand Replica) → SeeksIn NoTask (store_copy_of m ws s k d c)
 unfolding store_copy_of
-store_copy_seeks m ws s k Nowhere c = tt
-store_copy_seeks m ws s k (Slot x i) c =
-    forwarded_all (SeeksIn NoTask) (look_of ws s x) (store_copy_in m ws k i c) _ (λ r len. pick_all (SeeksIn NoTask) (leb len i) _ _ (λ e. tt) (λ e. tt)) tt
+store_copy_seeks m ws s k None c = tt
+store_copy_seeks m ws s k (Some y) c =
+    forwarded_all (SeeksIn NoTask) (look_of ws s y.object) (store_copy_in m ws k y.index c) _ (λ r len. pick_all (SeeksIn NoTask) (leb len y.index) _ _ (λ e. tt) (λ e. tt)) tt
 
 pub take_seeks : (m : Marks) (ws : List ℕ) (s n : ℕ) → SeeksIn NoTask (take_of m ws s n)
 unfolding take_of
@@ -142,11 +137,11 @@ pub read_seeks : (m : Marks) (ws : List ℕ) (s n : ℕ) (x : Primary) (i : ℕ)
 unfolding read_of
 read_seeks m ws s n x i = whole (object_of ws s x)
   where
-    whole : (y : Object) → SeeksIn NoTask (read_case m ws n x i y)
-    whole (Whole len k) = pick_all (SeeksIn NoTask) (leb len i) _ _ (λ e. tt) (λ e. pick_all (SeeksIn NoTask) (ltb i k) _ _ (λ h. tt) (λ h. tt))
-    whole Torn = tt
+    whole : (y : Option Descriptor) → SeeksIn NoTask (read_case m ws n x i y)
+    whole (Some o) = pick_all (SeeksIn NoTask) (leb o.len i) _ _ (λ e. tt) (λ e. pick_all (SeeksIn NoTask) (ltb i o.m) _ _ (λ h. tt) (λ h. tt))
+    whole None = tt
 
-pub put_seeks : (m : Marks) (ws : List ℕ) (s n : ℕ) (x : Primary) (i : ℕ) (c : Copied) → SeeksIn NoTask (put_of m ws s n x i c)
+pub put_seeks : (m : Marks) (ws : List ℕ) (s n : ℕ) (x : Primary) (i : ℕ) (c : Operand Replica) → SeeksIn NoTask (put_of m ws s n x i c)
 unfolding put_of
 put_seeks m ws s n x i c =
     forwarded_all (SeeksIn NoTask) (look_of ws s x) (put_in m ws n x i c) _ (λ r len. pick_all (SeeksIn NoTask) (leb len i) _ _ (λ e. tt) (λ e. tt)) tt

@@ -5,7 +5,7 @@ use Rattle.std.proofs.Math.Decide.{ℕ_discrete, dec_lt}
 use Rattle.std.proofs.Math.ListN.{get_or-append, get_or-eq_default}
 use Rattle.std.proofs.Math.Seq.{set_out}
 use Rattle.table.specs.declared.Answer.{Answer}
-use Rattle.table.specs.declared.Answer.TheVariants.{Accepted, Done, Value, Moved, Wait, Report, No}
+use Rattle.table.specs.declared.Answer.TheVariants.{Accepted, Done}
 use Rattle.machine.specs.Entries.{task_at, Ends}
 use Rattle.machine.specs.Call.{Call}
 use Rattle.machine.specs.StillStore.{empty_store, Store, Owner, Thing, Doing, resting, making, filling, storing, Kind, Made, Filled, Written, Ended, owner, thing, owner_at, thing_at, makes, fills, fills_thing, writes_thing, ends_owner, happens, happen_all, accepted, task_of, told}
@@ -135,6 +135,10 @@ Spares s i ks x j = (y v : ℕ) → (owner_at s i).doing ≡ storing y j v → y
 after : (s w : Store) (x j : ℕ) (q : Store) → Stays s w x j → Stays w q x j → Stays s q x j
 after s w x j q a b = record { filled = b.filled; same = b.same ∙ a.same }
 
+-- who rests stores nothing
+pub no_store_lem : {A : Type 0} {x j v : ℕ} → resting ≡ storing x j v → A
+no_store_lem e = clash cc
+
 pub happen_stays : (ks : List Kind) (s : Store) (i x j : ℕ) → j < length (thing_at s x).slots → Spares s i ks x j → Stays s (happen_all s i ks) x j
 unfolding happen_all
 happen_stays [] s i x j l h = record { filled = l; same = refl }
@@ -154,9 +158,6 @@ happen_stays (Written ∷ ks) s i x j l h =
 happen_stays (Ended ∷ ks) s i x j l h =
     after s (happens s i Ended) x j _ (record { filled = l; same = refl })
     (happen_stays ks (happens s i Ended) i x j l (λ y v e q. let z : resting ≡ storing y j v = sym (rests_after s i) ∙ e in no_store_lem z))
-  where
-    no_store_lem : {A : Type 0} {y k v : ℕ} → resting ≡ storing y k v → A
-    no_store_lem e = let z : ◌≡◌ {A = ℕ} 0 1 = cc in clash z
 
 -- and the write puts its value there
 pub slot_written : (s : Store) (i x j v : ℕ) → j < length (thing_at s x).slots → (owner_at s i).doing ≡ storing x j v
@@ -167,38 +168,19 @@ slot_written s i x j v l e =
 -- ---- one call, and a list of calls
 accepted_things : (s : Store) (c : Call) → (accepted s c).things ≡ s.things
 accepted_things s (Call.New task r len m) = refl
-accepted_things s (Call.Fill task w) = refl
-accepted_things s (Call.FillPointer task r) = refl
-accepted_things s (Call.Load task to from slot) = refl
-accepted_things s (Call.Store task o slot w) = refl
-accepted_things s (Call.StorePointer task o slot r) = refl
-accepted_things s (Call.Move task to from) = refl
-accepted_things s (Call.Clear task r) = refl
-accepted_things s (Call.Same task a b) = refl
-accepted_things s (Call.Put task root r) = refl
-accepted_things s (Call.Get task r root) = refl
-accepted_things s (Call.Step task) = refl
-accepted_things s Call.Report = refl
+accepted_things s _ = refl
 
 -- a call that made nothing leaves the things
 told_things : (s : Store) (c : Call) (x : Answer) → (told s c x []).things ≡ s.things
 unfolding happen_all
 told_things s c Accepted = accepted_things s c
 told_things s c Done = accepted_things s c
-told_things s c (Value v) = refl
-told_things s c Moved = refl
-told_things s c (Wait q) = refl
-told_things s c (Report on live copies) = refl
-told_things s c (No x) = refl
+told_things s c _ = refl
 
+-- the store is told of a step by its kinds alone
 pub told_step : (s : Store) (i : ℕ) (x : Answer) (ks : List Kind) → told s (Call.Step i) x ks ≡ happen_all s i ks
 told_step s i Accepted ks = refl
-told_step s i Done ks = refl
-told_step s i (Value v) ks = refl
-told_step s i Moved ks = refl
-told_step s i (Wait q) ks = refl
-told_step s i (Report on live copies) ks = refl
-told_step s i (No x) ks = refl
+told_step s i _ ks = refl
 
 things_stay : (s w : Store) (x j : ℕ) → w.things ≡ s.things → j < length (thing_at s x).slots → Stays s w x j
 things_stay s w x j e l = record { filled = rw e l; same = rw e }

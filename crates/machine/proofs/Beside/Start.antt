@@ -1,6 +1,6 @@
 -- An accepted set-up: table and words stand for no object, and so does the empty store.
-use Rattle.std.specs.Prelude.{ℕ, zero, suc, ◌+◌, ◌*◌, ◌≤◌, ◌≡◌, refl, List, [], Bool, true, false, replicate, ltb, eqb}
-use Rattle.std.proofs.Common.{arith, ltb-false, eqb-true}
+use Rattle.std.specs.Prelude.{ℕ, ◌+◌, ◌*◌, ◌≤◌, ◌≡◌, refl, List, [], Bool, true, false, replicate, ltb, eqb}
+use Rattle.std.proofs.Common.{arith, ltb-false, eqb-true, sym}
 use Rattle.std.proofs.lemmas.List.{length-replicate, get_or-replicate}
 use Rattle.table.specs.declared.Limits.{Limits}
 use Rattle.machine.specs.Basics.{pick}
@@ -11,7 +11,7 @@ use Rattle.machine.specs.Bounds.{Limited, Sized}
 use Rattle.machine.specs.Setup.{fresh_task, fresh_table}
 use Rattle.machine.specs.Tasks.{holding_of}
 use Rattle.machine.specs.StillStore.{empty_store, owner, resting}
-use Rattle.machine.proofs.Objects.Base.{off_on, sum_to}
+use Rattle.machine.proofs.Objects.Base.{off_on, sum_none}
 use Rattle.machine.proofs.Objects.State.{Snapshot}
 use Rattle.machine.proofs.Objects.Start.{start, start_inv}
 use Rattle.machine.proofs.Agree.Mem.{P, R, S, Holds}
@@ -63,11 +63,6 @@ sizes_are l n e =
 nothing : Snapshot
 nothing = record { n = 0; fill = λ x. 0; slots = λ x j. 0; roots = [] }
 
-no_jobs : (n : ℕ) → 0 ≡ sum_to n (λ i. 0)
-unfolding sum_to
-no_jobs zero = refl
-no_jobs (suc n) = omega (arith, no_jobs n)
-
 -- no place means anything yet
 no_words : (h : ℕ) (ws : List ℕ) → Holds (addr (λ x. 0) (λ x. 0)) (Ok (λ x. Unit {0}) (start nothing).shape (start nothing).hd (start nothing).has (h + 2) (2 + h))
     (content (start nothing).shape (λ x. 0) (λ x. 0) (start nothing).hd (start nothing).prim (start nothing).rep [] (h + 2)) [] ws
@@ -95,7 +90,7 @@ fresh_good l n e =
           based = omega arith;
           free = omega arith;
           stack = omega arith;
-          jobs = no_jobs l.p;
+          jobs = sym (sum_none l.p _ (λ i m. refl));
           copies = omega arith;
           owed = λ f. off_on f;
         };

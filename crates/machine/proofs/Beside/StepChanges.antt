@@ -1,22 +1,17 @@
 -- What a step makes of the task entries, and of its own task's Store.
-use Rattle.std.specs.Prelude.{ℕ, ◌+◌, ◌*◌, ◌≡◌, List, Bool, true, set, take, eqb}
+use Rattle.std.specs.Prelude.{ℕ, ◌+◌, ◌*◌, ◌≡◌, List, Bool, true, set, take, eqb, Option, Some, None, Result, Ok, Err}
 use Rattle.std.proofs.Math.Path.{refl}
 use Rattle.std.proofs.Common.{sym, arith}
 use Rattle.std.proofs.Math.Bool.{false}
 use Rattle.table.specs.declared.Primary.{Primary}
 use Rattle.table.specs.declared.Marks.{Marks}
-use Rattle.table.specs.declared.Pending.{Pending}
-use Rattle.table.specs.declared.Pending.TheVariants.{Nothing, Making}
+use Rattle.table.specs.declared.Making.{Making}
 use Rattle.table.specs.declared.Place.{Place}
 use Rattle.table.specs.declared.Place.TheVariants.{Idle, New, Asked, Take}
 use Rattle.table.specs.declared.Task.{Task}
 use Rattle.table.specs.declared.Table.{Table}
 use Rattle.table.specs.declared.Sought.{Sought}
 use Rattle.table.specs.declared.Sought.TheVariants.{Worker, Blocker}
-use Rattle.table.specs.declared.Found.{Found}
-use Rattle.table.specs.declared.Found.TheVariants.{At, Nobody}
-use Rattle.table.specs.declared.Pass.{Pass}
-use Rattle.table.specs.declared.Pass.TheVariants.{On, Stopped}
 use Rattle.table.specs.declared.Deed.{Deed}
 use Rattle.table.specs.declared.Deed.TheVariants.{Goes, GoesWith, Ends, EndsWith, Waits, Fails}
 use Rattle.table.specs.declared.Refusal.{Refusal}
@@ -24,7 +19,7 @@ use Rattle.table.specs.declared.Answer.{Answer}
 use Rattle.table.specs.declared.Answer.TheVariants.{Done, Moved, No}
 use Rattle.machine.specs.Basics.{pick, all_of, first_of}
 use Rattle.machine.specs.Numbers.{refusal, effect_of}
-use Rattle.machine.specs.Words.{end_of, room_for}
+use Rattle.machine.specs.Words.{end_of, room_for, wanted}
 use Rattle.machine.specs.Entries.{task_at, with_task, with_place, moved_table, refused, ends}
 use Rattle.machine.specs.Entries.{Ends as Ended}
 use Rattle.machine.specs.Tasks.{seek_of, grey_of, all_idle}
@@ -54,9 +49,9 @@ pub data Stepped (t : Table) (i : ℕ) (before : Place) (f : Ended) : Type 0 whe
       → Settled f.out.answer before e.place → Stepped t i before f
 
 -- an instruction that ends leaves its task idle
-pub ended_place : (regs : List Primary) (d : Pending) → (ended_entry regs d).place ≡ Idle
-ended_place regs Nothing = refl
-ended_place regs (Making p r len f) = pick_all (λ (e : Task). e.place ≡ Idle) (eqb f len) _ _ (λ h. refl) (λ h. refl)
+pub ended_place : (regs : List Primary) (d : Option Making) → (ended_entry regs d).place ≡ Idle
+ended_place regs None = refl
+ended_place regs (Some d) = pick_all (λ (e : Task). e.place ≡ Idle) (eqb d.filled d.len) _ _ (λ h. refl) (λ h. refl)
 
 -- a switch-over is due only while collecting
 due_on : (t : Table) → switch_due t ≡ true → t.on ≡ true
@@ -82,14 +77,14 @@ pub record Creating (before : Place) : Type 0 where
   pub done : writes (done_kinds before) ≡ 0
   pub moved : (after : Place) → writes (moved_kinds before after) ≡ 0
 
-pub creating_new : (r len m : ℕ) → Creating (New r len m)
+pub creating_new : (r len m : ℕ) → Creating (New (wanted r len m))
 creating_new r len m = record {
   waiting = refl;
   done = refl;
   moved = λ after. pick_all (λ ks. writes ks ≡ 0) (pays after) _ _ (λ e. refl) (λ e. refl);
 }
 
-pub creating_asked : (r len m : ℕ) → Creating (Asked r len m)
+pub creating_asked : (r len m : ℕ) → Creating (Asked (wanted r len m))
 creating_asked r len m = record { waiting = refl; done = refl; moved = λ after. refl }
 
 module _ (t : Table) (i : ℕ) (before : Place) where
@@ -100,12 +95,12 @@ module _ (t : Table) (i : ℕ) (before : Place) where
   unfolding wait_of
   waited w ws = found (seek_of t.tasks t.limits.p w)
     where
-      found : (q : Found) → Stepped t i before (ends (wait_for t q) ws)
-      found (At q) = stands refl refl (λ after. refl)
-      found Nobody = refuses (refusal 11) ws
+      found : (q : Option ℕ) → Stepped t i before (ends (wait_for t q) ws)
+      found (Some q) = stands refl refl (λ after. refl)
+      found None = refuses (refusal 11) ws
 
   -- the instruction ends, and perhaps the collection with it
-  pub finished : (ws : List ℕ) (m : Marks) (d : Pending) (x : Answer) → Settled x before Idle → Stepped t i before (finish_of t ws i m d x)
+  pub finished : (ws : List ℕ) (m : Marks) (d : Option Making) (x : Answer) → Settled x before Idle → Stepped t i before (finish_of t ws i m d x)
   unfolding finish_of switch_of
   finished ws m d x h =
       pick_all (λ o. Stepped t i before (ends o ws)) (switch_due (ended_table t i m d)) _ _
@@ -142,9 +137,9 @@ module _ (t : Table) (i : ℕ) (before : Place) where
   unfolding flip_of
   flip_made ws k off = passed (passes_of t ws).pass
     where
-      passed : (p : Pass) → Stepped t i before (ends (flip_end t p) (passes_of t ws).words)
-      passed (On m) = flips off refl refl k.moved
-      passed (Stopped x) = refuses x (passes_of t ws).words
+      passed : (p : Result Marks Refusal) → Stepped t i before (ends (flip_end t p) (passes_of t ws).words)
+      passed (Ok m) = flips off refl refl k.moved
+      passed (Err x) = refuses x (passes_of t ws).words
 
   pub new_off : (ws : List ℕ) (r len m : ℕ) → Creating before → t.on ≡ false → Stepped t i before (new_off_of t ws i r len m)
   unfolding new_off_of with_place with_task
@@ -156,9 +151,9 @@ module _ (t : Table) (i : ℕ) (before : Place) where
       (λ f. asked (seek_of t.tasks t.limits.p (Blocker i))))
       (λ e. refuses (refusal 11) ws)
     where
-      asked : (q : Found) → Stepped t i before (ask_or t ws i (Asked r len m) q)
-      asked (At q) = goes _ refl refl (sym k.waiting)
-      asked Nobody = flip_made ws k off
+      asked : (q : Option ℕ) → Stepped t i before (ask_or t ws i (Asked (wanted r len m)) q)
+      asked (Some q) = goes _ refl refl (sym k.waiting)
+      asked None = flip_made ws k off
 
   pub new_on : (ws : List ℕ) (r len m : ℕ) → Creating before → Stepped t i before (new_on_of t ws i r len m)
   unfolding new_on_of moved_table

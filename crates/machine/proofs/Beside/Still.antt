@@ -1,8 +1,7 @@
 -- The store in which nothing moves holds what the objects say.
-use Rattle.std.specs.Prelude.{ℕ, ◌≤◌, ◌<◌, ◌≡◌, List, map, false, length, get_or}
+use Rattle.std.specs.Prelude.{ℕ, ◌≤◌, ◌<◌, ◌≡◌, List, map, false, length, get_or, Option, Some, None}
 use Rattle.table.specs.declared.Primary.{Primary}
-use Rattle.table.specs.declared.Pending.{Pending}
-use Rattle.table.specs.declared.Pending.TheVariants.{Nothing, Making}
+use Rattle.table.specs.declared.Making.{Making}
 use Rattle.table.specs.declared.Then.{Then}
 use Rattle.table.specs.declared.Then.TheVariants.{ToWrite, ToStoreCopy, ToFillCopy, ToPut}
 use Rattle.table.specs.declared.Place.{Place}
@@ -20,28 +19,28 @@ abbrev pub DoingThen : Task → Doing → ℕ → Then → Type 0
 DoingThen e d q (ToWrite v) = OfStore e.storing (λ x i. d ≡ storing x i (operand_word v))
 DoingThen e d q ToStoreCopy = is_resting d ≡ false
 DoingThen e d q ToFillCopy = d ≡ filling q
-DoingThen e d q (ToPut n x i) = is_resting d ≡ false
+DoingThen e d q (ToPut n job) = is_resting d ≡ false
 
 abbrev pub DoingAt : Task → Doing → Place → Type 0
 DoingAt e d Idle = d ≡ resting
-DoingAt e d (New r len m) = d ≡ making r len m
-DoingAt e d (Asked r len m) = d ≡ making r len m
+DoingAt e d (New want) = d ≡ making want.register want.len want.m
+DoingAt e d (Asked want) = d ≡ making want.register want.len want.m
 DoingAt e d (FillWrite v) = d ≡ filling (operand_word v)
 DoingAt e d (FillCopy c) = d ≡ filling (copied_word c)
 DoingAt e d (StoreWrite v) = OfStore e.storing (λ x i. d ≡ storing x i (operand_word v))
 DoingAt e d (Meet v) = is_resting d ≡ false
 DoingAt e d (StoreCopy c) = is_resting d ≡ false
 DoingAt e d (Take n) = is_resting d ≡ false
-DoingAt e d (Read n x i) = is_resting d ≡ false
-DoingAt e d (Put n x i c) = is_resting d ≡ false
-DoingAt e d (Release n x i) = is_resting d ≡ false
+DoingAt e d (Read n job) = is_resting d ≡ false
+DoingAt e d (Put n job c) = is_resting d ≡ false
+DoingAt e d (Release n job) = is_resting d ≡ false
 DoingAt e d (Looking q th) = DoingThen e d q.0 th
 DoingAt e d (Placing q th) = DoingThen e d q.0 th
 
 -- the register that a pending object goes to
-abbrev pub GoesTo : Pending → ℕ → Type 0
-GoesTo Nothing r = Unit {0}
-GoesTo (Making x q len f) r = r ≡ q
+abbrev pub GoesTo : Option Making → ℕ → Type 0
+GoesTo None r = Unit {0}
+GoesTo (Some d) r = r ≡ d.register
 
 pub record StillTask (e : Task) (w : Owner) : Type 0 where
   pub regs : w.regs ≡ map number e.regs

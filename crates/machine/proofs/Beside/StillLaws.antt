@@ -12,7 +12,7 @@ use Rattle.machine.proofs.Objects.Base.{upd, upd_same, upd_other, slot, slot_sam
 use Rattle.machine.proofs.Objects.State.{Shape, root}
 use Rattle.machine.proofs.Objects.Ops.{wrote_one}
 use Rattle.machine.proofs.Beside.Still.{number, StillTask, StillThing, Still}
-use Rattle.machine.proofs.Agree.Enter.{map_set}
+use Rattle.std.proofs.lemmas.List.{map-set}
 
 -- ---- one task
 module _ {sh : Shape} {prim : ℕ → ℕ → ℕ} {ts : ℕ → Task} {roots : List Primary} {w : Store} (k : Still sh prim ts roots w) (t : ℕ) (l : t < 8) where
@@ -52,7 +52,7 @@ pub still_reroot : {sh : Shape} {prim : ℕ → ℕ → ℕ} {ts : ℕ → Task}
 still_reroot {roots = roots} k r x = record {
   owners = k.owners;
   tasks = k.tasks;
-  shared = rw k.shared (sym (map_set number roots r (primary x)));
+  shared = rw k.shared (sym (map-set number roots r (primary x)));
   things = k.things;
   each = k.each;
 }

@@ -1,27 +1,25 @@
 -- The kinds of action, in store and objects alike: an object made, a slot filled, the instruction ended.
-use Rattle.std.specs.Prelude.{ℕ, suc, ◌-◌, ◌≤◌, ◌<◌, ◌≡◌, refl, List, [], ◌∷◌, ◌++◌, map, Bool, true, false, length, get_or, set, eqb}
+use Rattle.std.specs.Prelude.{ℕ, suc, ◌-◌, ◌≤◌, ◌<◌, ◌≡◌, refl, List, [], ◌∷◌, ◌++◌, map, Bool, true, false, length, get_or, set, eqb, Option, Some, None}
 use Rattle.std.proofs.Common.{ap, sym, subst, ◌∙◌, arith, length-set, length-append, get_or-set_same, get_or-set_other, eq-eqb, ne_eqb}
 use Rattle.std.proofs.Math.Decide.{ℕ_discrete}
 use Rattle.std.proofs.Math.ListN.{get_or-append}
 use Rattle.std.proofs.Math.Seq.{get_or-append_seam}
 use Rattle.table.specs.declared.Primary.{Primary}
-use Rattle.table.specs.declared.Pending.{Pending}
-use Rattle.table.specs.declared.Pending.TheVariants.{Nothing, Making}
-use Rattle.table.specs.declared.Storing.TheVariants.{Nowhere}
+use Rattle.table.specs.declared.Making.{Making}
 use Rattle.table.specs.declared.Place.{Place}
 use Rattle.table.specs.declared.Place.TheVariants.{Idle}
 use Rattle.table.specs.declared.Task.{Task}
 use Rattle.machine.specs.Basics.{pick}
 use Rattle.machine.specs.Words.{primary}
-use Rattle.machine.specs.Entries.{entry}
+use Rattle.machine.specs.Entries.{entry, pending_with}
 use Rattle.machine.specs.Switch.{ended_entry}
 use Rattle.machine.specs.StillStore.{Store, Owner, resting, making, owner, thing, owner_at, thing_at, with_owner, with_thing, makes, fills_thing, ends_owner}
 use Rattle.machine.proofs.Objects.Base.{upd, upd_same, upd_other}
 use Rattle.machine.proofs.Objects.State.{Shape, pending_is}
 use Rattle.machine.proofs.Objects.Ops.{shape_of, one_more, goes_with}
-use Rattle.machine.proofs.Agree.Enter.{map_set}
 use Rattle.machine.proofs.Beside.Still.{number, GoesTo, DoingAt, StillTask, StillThing, Still}
 use Rattle.machine.proofs.Beside.StillLaws.{still_owner, still_thing}
+use Rattle.std.proofs.lemmas.List.{map-set}
 
 -- the next slot of x filled with v, which stands there
 pub still_filled : {sh : Shape} {prim : ℕ → ℕ → ℕ} {ts : ℕ → Task} {roots : List Primary} {w : Store} (prim' : ℕ → ℕ → ℕ) (wrote : ℕ → ℕ)
@@ -53,8 +51,8 @@ still_filled {sh} {prim} {ts} {roots} {w} prim' wrote k x v z m e f =
 
 -- one object more, the task's pending object
 pub still_made : {sh : Shape} {prim : ℕ → ℕ → ℕ} {ts : ℕ → Task} {roots : List Primary} {w : Store} → Still sh prim ts roots w → (t : ℕ) → t < 8
-    → (r len m : ℕ) (pl : Place) → (owner_at w t).doing ≡ making r len m → DoingAt (goes_with (ts t) (Making (primary (suc sh.n)) r len 0) pl) (making r len m) pl
-    → Still (one_more sh len m) prim (upd ts t (goes_with (ts t) (Making (primary (suc sh.n)) r len 0) pl)) roots (makes w t (making r len m))
+    → (r len m : ℕ) (pl : Place) → (owner_at w t).doing ≡ making r len m → DoingAt (goes_with (ts t) (pending_with (primary (suc sh.n)) r len 0) pl) (making r len m) pl
+    → Still (one_more sh len m) prim (upd ts t (goes_with (ts t) (pending_with (primary (suc sh.n)) r len 0) pl)) roots (makes w t (making r len m))
 still_made {sh} {prim} {ts} {roots} {w} k t l r len m pl d g = record {
   owners = length-set w.owners t o ∙ k.owners;
   tasks = λ i h. go i h (ℕ_discrete i t);
@@ -64,7 +62,7 @@ still_made {sh} {prim} {ts} {roots} {w} k t l r len m pl d g = record {
 }
   where
     e : Task
-    e = goes_with (ts t) (Making (primary (suc sh.n)) r len 0) pl
+    e = goes_with (ts t) (pending_with (primary (suc sh.n)) r len 0) pl
 
     o : Owner
     o = owner (owner_at w t).regs (length (w.things ++ (thing len m [] ∷ []))) r (owner_at w t).doing
@@ -100,33 +98,33 @@ still_made {sh} {prim} {ts} {roots} {w} k t l r len m pl d g = record {
         })
 
 -- what the end of an instruction knows of the pending object
-abbrev pub Filling : Shape → Pending → Type 0
-Filling sh Nothing = Unit {0}
-Filling sh (Making x r len f) = (0 < x.0) × (x.0 ≤ sh.n) × (len ≡ sh.len x.0) × (f ≡ sh.fill x.0)
+abbrev pub Filling : Shape → Option Making → Type 0
+Filling sh None = Unit {0}
+Filling sh (Some d) = (0 < d.at.0) × (d.at.0 ≤ sh.n) × (d.len ≡ sh.len d.at.0) × (d.filled ≡ sh.fill d.at.0)
 
 pub still_ended : {sh : Shape} {prim : ℕ → ℕ → ℕ} {ts : ℕ → Task} {roots : List Primary} {w : Store} → Still sh prim ts roots w → (t : ℕ) → t < 8
-    → (regs : List Primary) (d : Pending) → (owner_at w t).regs ≡ map number regs → (owner_at w t).pending ≡ pending_is d → GoesTo d (owner_at w t).goes_to
+    → (regs : List Primary) (d : Option Making) → (owner_at w t).regs ≡ map number regs → (owner_at w t).pending ≡ pending_is d → GoesTo d (owner_at w t).goes_to
     → Filling sh d → Still sh prim (upd ts t (ended_entry regs d)) roots (with_owner w t (ends_owner (owner_at w t) (thing_at w (owner_at w t).pending)))
 still_ended {sh} {prim} {ts} {roots} {w} k t l regs d a b g h = still_owner k t l (ended_entry regs d) _ (ended d b g h)
   where
     o : Owner
     o = owner_at w t
 
-    ended : (d : Pending) → (owner_at w t).pending ≡ pending_is d → GoesTo d (owner_at w t).goes_to → Filling sh d
+    ended : (d : Option Making) → (owner_at w t).pending ≡ pending_is d → GoesTo d (owner_at w t).goes_to → Filling sh d
         → StillTask (ended_entry regs d) (ends_owner (owner_at w t) (thing_at w (owner_at w t).pending))
-    ended Nothing b g h = rw (eq-eqb _ _ b) (record { regs = a; pending = refl; goes_to = tt; doing = refl })
-    ended (Making x r len f) b g h = on (eqb f len) refl
+    ended None b g h = rw (eq-eqb _ _ b) (record { regs = a; pending = refl; goes_to = tt; doing = refl })
+    ended (Some d) b g h = on (eqb d.filled d.len) refl
       where
-        full : eqb (length (thing_at w (owner_at w t).pending).slots) (thing_at w (owner_at w t).pending).len ≡ eqb f len
-        full = let q = k.each x.0 h.0 h.1 in rw (b, q.fill, q.len, h.2, h.3) refl
+        full : eqb (length (thing_at w (owner_at w t).pending).slots) (thing_at w (owner_at w t).pending).len ≡ eqb d.filled d.len
+        full = let q = k.each d.at.0 h.0 h.1 in rw (b, q.fill, q.len, h.2, h.3) refl
 
         some : eqb (owner_at w t).pending 0 ≡ false
-        some = rw b (ne_eqb x.0 0 (λ z. omega (arith, h.0)))
+        some = rw b (ne_eqb d.at.0 0 (λ z. omega (arith, h.0)))
 
-        on : (c : Bool) → eqb f len ≡ c
-            → StillTask (pick (eqb f len) (entry (set regs r x) Nothing Nowhere Idle) (entry regs (Making x r len f) Nowhere Idle))
+        on : (c : Bool) → eqb d.filled d.len ≡ c
+            → StillTask (pick (eqb d.filled d.len) (entry (set regs d.register d.at) None None Idle) (entry regs (Some d) None Idle))
             (ends_owner (owner_at w t) (thing_at w (owner_at w t).pending))
         on true c =
             rw (some, full, c)
-            (record { regs = rw (a, g, b) (sym (map_set number regs r x)); pending = refl; goes_to = tt; doing = refl })
+            (record { regs = rw (a, g, b) (sym (map-set number regs d.register d.at)); pending = refl; goes_to = tt; doing = refl })
         on false c = rw (some, full, c) (record { regs = a; pending = b; goes_to = g; doing = refl })

@@ -6,13 +6,12 @@ use borrow.Author.Tests.{lt-leb}
 use Rattle.table.specs.declared.Limits.{Limits}
 use Rattle.table.specs.declared.Primary.{Primary}
 use Rattle.table.specs.declared.Operand.{Operand}
-use Rattle.table.specs.declared.Storing.TheVariants.{Slot}
 use Rattle.table.specs.declared.Place.TheVariants.{StoreWrite}
 use Rattle.table.specs.declared.Answer.TheVariants.{Done}
 use Rattle.table.specs.declared.Table.{Table}
 use Rattle.machine.specs.History.{History}
 use Rattle.machine.specs.Words.{operand_word}
-use Rattle.machine.specs.Entries.{task_at}
+use Rattle.machine.specs.Entries.{task_at, storing_on}
 use Rattle.machine.specs.Begin.{is_pointer}
 use Rattle.machine.specs.Store.{store_write_of}
 use Rattle.machine.specs.Switch.{ended_entry}
@@ -40,7 +39,7 @@ use Rattle.machine.proofs.Beside.Finish.{finishes}
 use Rattle.machine.proofs.Beside.Ending.{ended_jobs, ended_table_lem, filling}
 
 -- the slot written and the instruction ended, by objects
-stored_inv : {K : ℕ → Type 0} {p s : ℕ} (o : State) (t : ℕ) (x : Primary) (j : ℕ) (v : Operand) → Inv K p s o → t < p → (o.tasks t).storing ≡ Slot x j → o.on ≡ false
+stored_inv : {K : ℕ → Type 0} {p s : ℕ} (o : State) (t : ℕ) (x : Primary) (j : ℕ) (v : Operand Primary) → Inv K p s o → t < p → (o.tasks t).storing ≡ storing_on x j → o.on ≡ false
     → (o.tasks t).place ≡ StoreWrite v → Inv K p s (stores o x.0 j (operand_word v) t (ended_entry (o.tasks t).regs (o.tasks t).pending))
 unfolding holding_of
 stored_inv {K} {p} {s} o t x j v inv l se off pe =
@@ -51,16 +50,16 @@ stored_inv {K} {p} {s} o t x j v inv l se off pe =
     e = upd_same o.tasks t (o.tasks t)
 
 module _ {l : Limits} {w : Store} {hy : History} {t : Table} {ws : List ℕ} (g : Good l w hy t ws) (i : ℕ) (ip : i < t.limits.p) (x : Primary) (j : ℕ)
-    (se : (g.objects.tasks i).storing ≡ Slot x j) where
-  stored : StoringOk g.kept g.objects.shape (Slot x j)
+    (se : (g.objects.tasks i).storing ≡ storing_on x j) where
+  stored : StoringOk g.kept g.objects.shape (storing_on x j)
   stored = rw se at (g.inv.entries i).storing
 
   held : Held g.kept g.objects.shape x.0
   held = sound_held g.kept g.objects.shape x.0 stored.0 stored.1
 
-  pub store_off_comes : (X : Type 0) (v : Operand) → g.objects.on ≡ false → (g.objects.tasks i).place ≡ StoreWrite v
+  pub store_off_comes : (X : Type 0) (v : Operand Primary) → g.objects.on ≡ false → (g.objects.tasks i).place ≡ StoreWrite v
       → Comes l w hy t ws i (at_place g.pa g.ra (StoreWrite v)) X
-      (settle t i (store_write_of false t.marks ws t.limits.s (Slot (at_primary g.pa x) j) (at_operand g.pa v)))
+      (settle t i (store_write_of false t.marks ws t.limits.s (storing_on (at_primary g.pa x) j) (at_operand g.pa v)))
   unfolding store_write_of settle_of happen_all holding_of
   store_off_comes X v off pe =
       rw (object_of_lem g.inv g.agree x.0 held, lt-leb (g.objects.shape.len x.0) j stored.2, operand_word_lem g.pa v j (g.objects.shape.ptr x.0) kind)

@@ -1,12 +1,11 @@
 -- The moment of a Store in the runs from set-up: its slot as before until its one writing step, and after that step the value stored.
-use Rattle.std.specs.Prelude.{ℕ, ◌+◌, ◌<◌, ◌≡◌, ◌≢◌, List, [], ◌∷◌, ◌++◌, Bool, true, false, length, ltb}
+use Rattle.std.specs.Prelude.{ℕ, ◌+◌, ◌<◌, ◌≡◌, ◌≢◌, List, [], ◌∷◌, ◌++◌, Bool, true, false, length, ltb, Ok, Err}
 use Rattle.std.proofs.Math.Path.{refl}
 use Rattle.std.proofs.Common.{sym, ◌∙◌, inl, inr, arith, get_or-set_same, ltb-true, eq-eqb}
 use Rattle.table.specs.declared.Limits.{Limits}
 use Rattle.table.specs.declared.Table.{Table}
 use Rattle.table.specs.declared.Refusal.{Refusal}
 use Rattle.table.specs.declared.Refusal.TheVariants.{Exhausted}
-use Rattle.table.specs.declared.Gate.TheVariants.{Open, Shut}
 use Rattle.table.specs.declared.Answer.TheVariants.{Accepted, No}
 use Rattle.table.specs.declared.Outcome.{Outcome}
 use Rattle.machine.specs.Basics.{pick}
@@ -52,15 +51,15 @@ written_append i (c ∷ cs) ds e = omega (arith, written_append i cs ds (then c 
 
 -- ---- the begin of a Store
 refused_not : {A : Type 0} {x : Refusal} → No x ≡ Accepted → A
-refused_not e = let z : ◌≡◌ {A = ℕ} 0 1 = cc in clash z
+refused_not e = clash cc
 
 -- what the gate lets through is a call of one of the P tasks
-gate_open : (b : Bool) (t : Table) (r : Outcome) → (through (pick b Open (Shut (refusal 2))) t r).answer ≡ Accepted → b ≡ true
+gate_open : (b : Bool) (t : Table) (r : Outcome) → (through (pick b (Ok tt) (Err (refusal 2))) t r).answer ≡ Accepted → b ≡ true
 gate_open true t r h = refl
 gate_open false t r h = refused_not h
 
 pair_open : (b c d : Bool) (t : Table) (r : Outcome)
-    → (through (behind (pick b Open (Shut (refusal 2))) (pick c (Shut (refusal 3)) (pick d (Shut (refusal 3)) Open))) t r).answer ≡ Accepted → b ≡ true
+    → (through (behind (pick b (Ok tt) (Err (refusal 2))) (pick c (Err (refusal 3)) (pick d (Err (refusal 3)) (Ok tt)))) t r).answer ≡ Accepted → b ≡ true
 pair_open true c d t r h = refl
 pair_open false c d t r h = refused_not h
 

@@ -7,9 +7,9 @@ use Rattle.std.proofs.Math.Dec.{ltb}
 use borrow.Author.Tests.{lt-leb}
 use Rattle.table.specs.declared.Limits.{Limits}
 use Rattle.table.specs.declared.Primary.{Primary}
+use Rattle.machine.specs.Entries.{storing_on}
 use Rattle.table.specs.declared.Operand.{Operand}
-use Rattle.table.specs.declared.Copied.{Copied}
-use Rattle.table.specs.declared.Storing.TheVariants.{Slot}
+use Rattle.table.specs.declared.Replica.{Replica}
 use Rattle.table.specs.declared.Place.TheVariants.{StoreWrite, Meet, StoreCopy, Take}
 use Rattle.table.specs.declared.Table.{Table}
 use Rattle.machine.specs.History.{History}
@@ -36,16 +36,16 @@ use Rattle.machine.proofs.Beside.Good.{Good, Comes, comes_moved}
 use Rattle.machine.proofs.Beside.Glue.{operand_word_lem, copied_word_lem, look_placed, below, moved_goes, busy_at}
 
 module _ {l : Limits} {w : Store} {hy : History} {t : Table} {ws : List ℕ} (g : Good l w hy t ws) (i : ℕ) (ip : i < t.limits.p) (x : Primary) (j : ℕ)
-    (se : (g.objects.tasks i).storing ≡ Slot x j) where
-  stored : StoringOk g.kept g.objects.shape (Slot x j)
+    (se : (g.objects.tasks i).storing ≡ storing_on x j) where
+  stored : StoringOk g.kept g.objects.shape (storing_on x j)
   stored = rw se at (g.inv.entries i).storing
 
   held : Held g.kept g.objects.shape x.0
   held = sound_held g.kept g.objects.shape x.0 stored.0 stored.1
 
   -- the primary slot written
-  pub store_write_comes : (X : Type 0) (v : Operand) → g.objects.on ≡ true → (g.objects.tasks i).place ≡ StoreWrite v
-      → Comes l w hy t ws i (at_place g.pa g.ra (StoreWrite v)) X (settle t i (store_write_of true t.marks ws t.limits.s (Slot (at_primary g.pa x) j) (at_operand g.pa v)))
+  pub store_write_comes : (X : Type 0) (v : Operand Primary) → g.objects.on ≡ true → (g.objects.tasks i).place ≡ StoreWrite v
+      → Comes l w hy t ws i (at_place g.pa g.ra (StoreWrite v)) X (settle t i (store_write_of true t.marks ws t.limits.s (storing_on (at_primary g.pa x) j) (at_operand g.pa v)))
   unfolding store_write_of settle_of happen_all holding_of
   store_write_comes X v on pe =
       rw (object_of_lem g.inv g.agree x.0 held, lt-leb (g.objects.shape.len x.0) j stored.2, operand_word_lem g.pa v j (g.objects.shape.ptr x.0) place.0.0)
@@ -55,7 +55,7 @@ module _ {l : Limits} {w : Store} {hy : History} {t : Table} {ws : List ℕ} (g 
       (rw doing (still_goes (still_written g.still x.0 j (operand_word v) stored.0 stored.1.1 filled) i (below g i ip) (Meet v) (rw doing refl))) ip tt hy.copies refl
       (collects (g.collecting on) _ _ refl refl (g.collecting on).forgiven (counts_stores g.inv on (g.collecting on).counts i ip v pe)))
     where
-      place : OfStore (Slot x j) (λ x i. (is_pointer v ≡ ltb i (g.objects.shape.ptr x)) × (g.objects.on ≡ true → i < g.objects.shape.ptr x → IsSeen (g.objects.hd (g.objects.prim x i))))
+      place : OfStore (storing_on x j) (λ x i. (is_pointer v ≡ ltb i (g.objects.shape.ptr x)) × (g.objects.on ≡ true → i < g.objects.shape.ptr x → IsSeen (g.objects.hd (g.objects.prim x i))))
           × SoundOperand g.kept g.objects.shape v
       place = rw (pe, se) at (g.inv.places i)
 
@@ -69,9 +69,9 @@ module _ {l : Limits} {w : Store} {hy : History} {t : Table} {ws : List ℕ} (g 
       doing = rw (pe, se) at (g.still.tasks i (below g i ip)).doing
 
   -- the replica's slot written; then the payment
-  pub store_copy_comes : (X : Type 0) (c : Copied) → (g.objects.tasks i).place ≡ StoreCopy c
+  pub store_copy_comes : (X : Type 0) (c : Operand Replica) → (g.objects.tasks i).place ≡ StoreCopy c
       → Comes l w hy t ws i (at_place g.pa g.ra (StoreCopy c)) X
-      (settle t i (store_copy_of t.marks ws t.limits.s t.limits.k (Slot (at_primary g.pa x) j) (at_copied g.ra c)))
+      (settle t i (store_copy_of t.marks ws t.limits.s t.limits.k (storing_on (at_primary g.pa x) j) (at_copied g.ra c)))
   unfolding store_copy_of settle_of happen_all holding_of
   store_copy_comes X c pe =
       rw (
@@ -87,6 +87,6 @@ module _ {l : Limits} {w : Store} {hy : History} {t : Table} {ws : List ℕ} (g 
       (collects (g.collecting place.0) _ _ refl refl (g.collecting place.0).forgiven (counts_pays g.inv place.0 (g.collecting place.0).counts i ip (StoreCopy c) pe (not_idle (StoreCopy c) tt) refl)))
     where
       place : (g.objects.on ≡ true)
-          × OfStore (Slot x j) (λ x i. (is_renamed c ≡ ltb i (g.objects.shape.ptr x)) × (g.objects.prim x i ≡ copied_word c) × IsPlaced (g.objects.hd x))
+          × OfStore (storing_on x j) (λ x i. (is_renamed c ≡ ltb i (g.objects.shape.ptr x)) × (g.objects.prim x i ≡ copied_word c) × IsPlaced (g.objects.hd x))
           × SoundCopied g.kept g.objects.shape g.objects.hd c
       place = rw (pe, se) at (g.inv.places i)

@@ -5,8 +5,7 @@ use Rattle.std.proofs.Math.Decide.{dec_lt}
 use Rattle.std.proofs.lemmas.Bool.{eqb-false}
 use Rattle.machine.specs.Basics.{pick}
 use Rattle.machine.specs.Objects.Base.{In}
-use Rattle.machine.proofs.Objects.Base.{sum_to, sum_to_ext}
-use Rattle.machine.proofs.Objects.FlipCounts.{sum_none}
+use Rattle.machine.proofs.Objects.Base.{sum_to, sum_to_ext, sum_none}
 use Rattle.machine.specs.Live.Live.{total}
 
 -- no two objects that count have the same address

@@ -1,15 +1,14 @@
 -- A task whose Store waits to be written: its slot is its own, filled and spared by all others, and what it has begun stays begun.
-use Rattle.std.specs.Prelude.{ℕ, ◌<◌, ◌≡◌, refl, ◌≢◌, List, [], Bool, true, false, length}
+use Rattle.std.specs.Prelude.{ℕ, ◌<◌, ◌≡◌, refl, ◌≢◌, List, [], Bool, true, false, length, Option, Some, None}
 use Rattle.std.proofs.Common.{ap, sym, ◌∙◌, arith}
 use Rattle.std.proofs.Math.Decide.{dec_lt}
 use Rattle.std.proofs.Math.ListN.{get_or-eq_default}
 use Rattle.table.specs.declared.Limits.{Limits}
-use Rattle.table.specs.declared.Storing.{Storing}
-use Rattle.table.specs.declared.Storing.TheVariants.{Nowhere, Slot}
+use Rattle.table.specs.declared.Slot.{Slot}
 use Rattle.table.specs.declared.Then.{Then}
-use Rattle.table.specs.declared.Then.TheVariants.{ToWrite, ToStoreCopy, ToFillCopy, ToPut}
+use Rattle.table.specs.declared.Then.TheVariants.{ToWrite}
 use Rattle.table.specs.declared.Place.{Place}
-use Rattle.table.specs.declared.Place.TheVariants.{Idle, New, Asked, FillWrite, FillCopy, StoreWrite, Meet, StoreCopy, Take, Read, Put, Release, Looking, Placing}
+use Rattle.table.specs.declared.Place.TheVariants.{StoreWrite, Looking, Placing}
 use Rattle.table.specs.declared.Task.{Task}
 use Rattle.table.specs.declared.Table.{Table}
 use Rattle.machine.specs.Entries.{task_at}
@@ -17,7 +16,6 @@ use Rattle.machine.specs.Tasks.{holding_of, idle_of}
 use Rattle.machine.specs.Complete.{idle_at}
 use Rattle.machine.specs.StillStore.{Store, Doing, resting, storing, owner, owner_at, thing_at}
 use Rattle.machine.specs.History.{History}
-use Rattle.machine.proofs.Objects.Base.{clash}
 use Rattle.machine.proofs.Objects.State.{Shape, OfStore, On}
 use Rattle.machine.proofs.Objects.Inv.{Sound, StoringOk}
 use Rattle.machine.proofs.Agree.Encode.{at_then, at_place}
@@ -27,64 +25,37 @@ use Rattle.machine.proofs.Beside.Changes.{idle_waits}
 use Rattle.machine.proofs.Beside.Completes.{idle_rests}
 use Rattle.machine.specs.Beside.Waits.{waits_then}
 use Rattle.machine.proofs.Beside.Moment.{waits}
+use Rattle.machine.proofs.Beside.SlotsStay.{no_store_lem}
 
 -- ---- one entry
 then_waits : (pa : ℕ → ℕ) (th : Then) → waits_then (at_then pa th) ≡ waits_then th
 then_waits pa (ToWrite v) = refl
-then_waits pa ToStoreCopy = refl
-then_waits pa ToFillCopy = refl
-then_waits pa (ToPut n x i) = refl
+then_waits pa _ = refl
 
 -- by the machine's words as by the objects' numbers
 at_waits : (pa ra : ℕ → ℕ) (pl : Place) → waits (at_place pa ra pl) ≡ waits pl
-at_waits pa ra Idle = refl
-at_waits pa ra (New r len m) = refl
-at_waits pa ra (Asked r len m) = refl
-at_waits pa ra (FillWrite v) = refl
-at_waits pa ra (FillCopy c) = refl
-at_waits pa ra (StoreWrite v) = refl
-at_waits pa ra (Meet v) = refl
-at_waits pa ra (StoreCopy c) = refl
-at_waits pa ra (Take n) = refl
-at_waits pa ra (Read n x i) = refl
-at_waits pa ra (Put n x i c) = refl
-at_waits pa ra (Release n x i) = refl
 at_waits pa ra (Looking q th) = then_waits pa th
 at_waits pa ra (Placing q th) = then_waits pa th
+at_waits pa ra _ = refl
 
 -- what the store has begun for a Store that waits is the slot of the entry
-put_on : (s : Storing) (d : Doing) (u x j v : ℕ) → OfStore s (λ y k. d ≡ storing y k u) → d ≡ storing x j v → On s x j
-put_on Nowhere d u x j v h q = absurd h
-put_on (Slot y k) d u x j v h q = let z : storing y.0 k u ≡ storing x j v = sym h ∙ q in (cc, cc)
+put_on : (s : Option Slot) (d : Doing) (u x j v : ℕ) → OfStore s (λ y k. d ≡ storing y k u) → d ≡ storing x j v → On s x j
+put_on None d u x j v h q = absurd h
+put_on (Some y) d u x j v h q = let z : storing y.object.0 y.index u ≡ storing x j v = sym h ∙ q in (cc, cc)
 
 then_on : (e : Task) (d : Doing) (n x j v : ℕ) (th : Then) → waits_then th ≡ 1 → DoingThen e d n th → d ≡ storing x j v → On e.storing x j
 then_on e d n x j v (ToWrite u) z h q = put_on e.storing d _ x j v h q
-then_on e d n x j v ToStoreCopy z h q = absurd (omega (arith, z))
-then_on e d n x j v ToFillCopy z h q = absurd (omega (arith, z))
-then_on e d n x j v (ToPut m y i) z h q = absurd (omega (arith, z))
+then_on e d n x j v _ z h q = absurd (omega (arith, z))
 
 waits_on : (e : Task) (d : Doing) (x j v : ℕ) (pl : Place) → waits pl ≡ 1 → DoingAt e d pl → d ≡ storing x j v → On e.storing x j
-waits_on e d x j v Idle z h q = absurd (omega (arith, z))
-waits_on e d x j v (New r len m) z h q = absurd (omega (arith, z))
-waits_on e d x j v (Asked r len m) z h q = absurd (omega (arith, z))
-waits_on e d x j v (FillWrite u) z h q = absurd (omega (arith, z))
-waits_on e d x j v (FillCopy c) z h q = absurd (omega (arith, z))
 waits_on e d x j v (StoreWrite u) z h q = put_on e.storing d _ x j v h q
-waits_on e d x j v (Meet u) z h q = absurd (omega (arith, z))
-waits_on e d x j v (StoreCopy c) z h q = absurd (omega (arith, z))
-waits_on e d x j v (Take n) z h q = absurd (omega (arith, z))
-waits_on e d x j v (Read n y i) z h q = absurd (omega (arith, z))
-waits_on e d x j v (Put n y i c) z h q = absurd (omega (arith, z))
-waits_on e d x j v (Release n y i) z h q = absurd (omega (arith, z))
 waits_on e d x j v (Looking p th) z h q = then_on e d p.0 x j v th z h q
 waits_on e d x j v (Placing p th) z h q = then_on e d p.0 x j v th z h q
+waits_on e d x j v _ z h q = absurd (omega (arith, z))
 
-slot_ok : (K : ℕ → Type 0) (sh : Shape) (s : Storing) (x j : ℕ) → StoringOk K sh s → On s x j → (0 < x) × Sound K sh x × (j < sh.len x)
-slot_ok K sh Nowhere x j h q = absurd q
-slot_ok K sh (Slot y k) x j h q = rw (← q.0, ← q.1) h
-
-no_store_lem : {A : Type 0} {x j v : ℕ} → resting ≡ storing x j v → A
-no_store_lem e = let z : ◌≡◌ {A = ℕ} 0 1 = cc in clash z
+slot_ok : (K : ℕ → Type 0) (sh : Shape) (s : Option Slot) (x j : ℕ) → StoringOk K sh s → On s x j → (0 < x) × Sound K sh x × (j < sh.len x)
+slot_ok K sh None x j h q = absurd q
+slot_ok K sh (Some y) x j h q = rw (← q.0, ← q.1) h
 
 -- ---- in the heap
 module _ {l : Limits} {w : Store} {hy : History} {t : Table} {ws : List ℕ} (g : Good l w hy t ws) where

@@ -1,7 +1,7 @@
 -- What is counted of a Store: that it waits to be written, and that it is written.
 use Rattle.std.specs.Prelude.{◌≡◌, refl}
 use Rattle.table.specs.declared.Place.{Place}
-use Rattle.table.specs.declared.Place.TheVariants.{Idle, New, Asked, FillWrite, FillCopy, StoreWrite, Meet, StoreCopy, Take, Read, Put, Release, Looking, Placing}
+use Rattle.table.specs.declared.Place.TheVariants.{Idle}
 use Rattle.machine.specs.Numbers.{Effect, harmless, ends_new, spends, breaks}
 use Rattle.machine.specs.Flip.{unasked}
 use Rattle.machine.specs.Kinds.{refused_kinds}
@@ -18,16 +18,4 @@ refused_writes breaks = refl
 pub unasked_waits : (p : Place) → waits (unasked p) ≡ waits p
 unfolding unasked
 unasked_waits Idle = refl
-unasked_waits (New r len m) = refl
-unasked_waits (Asked r len m) = refl
-unasked_waits (FillWrite v) = refl
-unasked_waits (FillCopy c) = refl
-unasked_waits (StoreWrite v) = refl
-unasked_waits (Meet v) = refl
-unasked_waits (StoreCopy c) = refl
-unasked_waits (Take n) = refl
-unasked_waits (Read n x i) = refl
-unasked_waits (Put n x i c) = refl
-unasked_waits (Release n x i) = refl
-unasked_waits (Looking p next) = refl
-unasked_waits (Placing p next) = refl
+unasked_waits _ = refl

@@ -1,17 +1,16 @@
 -- What is live is what is reachable or pending, each once: for any table and any words.
-use Rattle.std.specs.Prelude.{ℕ, ◌+◌, ◌-◌, ◌*◌, ◌≤◌, ◌<◌, min, ◌≡◌, refl, ◌≢◌, ◌⊎◌, ◌↔◌, Bool, true, false, get_or, ltb}
+use Rattle.std.specs.Prelude.{ℕ, ◌+◌, ◌-◌, ◌*◌, ◌≤◌, ◌<◌, min, ◌≡◌, refl, ◌≢◌, ◌⊎◌, ◌↔◌, Bool, true, false, get_or, ltb, Option, Some, None}
 use Rattle.std.proofs.Common.{sym, arith, ltb-false}
 use Rattle.std.proofs.Math.Logic.{inl, inr}
 use mathlib.Core.List.{List, [], ◌∷◌}
 use Rattle.std.proofs.Math.ListN.{length}
-use Rattle.table.specs.declared.Object.{Object}
-use Rattle.table.specs.declared.Object.TheVariants.{Whole, Torn}
-use Rattle.table.specs.declared.Pending.{Pending as Made}
-use Rattle.table.specs.declared.Pending.TheVariants.{Nothing, Making}
+use Rattle.table.specs.declared.Descriptor.{Descriptor}
+use Rattle.table.specs.declared.Making.{Making}
 use Rattle.table.specs.declared.Table.{Table}
 use Rattle.machine.specs.Basics.{pick}
-use Rattle.machine.specs.Words.{primary, length_in, pointers_in, object_of}
-use Rattle.machine.specs.Entries.{task_at, nil, register}
+use Rattle.machine.proofs.Parts.{described_is}
+use Rattle.machine.specs.Words.{primary, length_in, pointers_in, object_of, described}
+use Rattle.machine.specs.Entries.{task_at, nil, register, pending_with}
 use Rattle.machine.specs.Objects.Base.{In}
 use Rattle.machine.proofs.Objects.Base.{clash, Nodup}
 use Rattle.machine.specs.Live.Reachable.{Points, Reachable, in_register, in_root, in_pending, in_slot, Pending}
@@ -19,15 +18,15 @@ use Rattle.machine.specs.Live.Live.{gather, pointers_of, pointers_below, pointer
 use Rattle.machine.proofs.Live.SearchLaws.{in_left, in_right, in_either, in_gather, gather_in, length_gather, search_once, search_keeps, search_only, unseen, unseen_nil, unseen_none, Found, search_finds}
 
 -- ---- a whole object
-no_torn : {A : Type 0} {len m : ℕ} → Torn ≡ Whole len m → A
-no_torn {len = len} {m = m} e = let z : ◌≡◌ {A = ℕ} 0 1 = cc in clash z
+no_torn : {A : Type 0} {len m : ℕ} → None ≡ described len m → A
+no_torn {len = len} {m = m} e = clash cc
 
-untorn : (b : Bool) (x : Object) (len m : ℕ) → pick b Torn x ≡ Whole len m → (b ≡ false) × (x ≡ Whole len m)
+untorn : (b : Bool) (x : Option Descriptor) (len m : ℕ) → pick b None x ≡ described len m → (b ≡ false) × (x ≡ described len m)
 untorn true x len m e = no_torn e
 untorn false x len m e = (refl, e)
 
 -- what its descriptor says, and that it lies in the buffer
-pub whole_is : (ws : List ℕ) (s p len m : ℕ) → object_of ws s (primary p) ≡ Whole len m
+pub whole_is : (ws : List ℕ) (s p len m : ℕ) → object_of ws s (primary p) ≡ described len m
     → (length_at ws p ≡ len) × (4 ≤ p) × (p + len ≤ length ws) × (m ≤ len) × (len ≤ s)
 unfolding object_of
 whole_is ws s p len m e =
@@ -36,8 +35,9 @@ whole_is ws s p len m e =
     let c = untorn (ltb s l) _ len m b.1 in
     let d = untorn (ltb l n) _ len m c.1 in
     let f = untorn (ltb (length ws - p) l) _ len m d.1 in
-    let g : l ≡ len = cc in
-    let h : n ≡ m = cc in (
+    let c' = described_is l n len m f.1 in
+    let g : l ≡ len = c'.0 in
+    let h : n ≡ m = c'.1 in (
       g,
       ltb-false p 4 a.0,
       omega (arith, ltb-false (length ws) p b.0, ltb-false (length ws - p) l f.0),
@@ -68,9 +68,9 @@ points_in t ws q j p k = rw k.2 (in_singles k.1 (λ j. get_or ws (q + j) 0) p j 
 in_points : (t : Table) (ws : List ℕ) (q p : ℕ) → In p (pointers_at t ws q) → p ≢ 0 → (j : ℕ) × Points t ws q j p
 in_points t ws q p i h = by (object_of ws t.limits.s (primary q)) refl i
   where
-    by : (x : Object) → object_of ws t.limits.s (primary q) ≡ x → In p (pointers_of ws q x) → (j : ℕ) × Points t ws q j p
-    by (Whole len m) e k = let r = singles_in m (λ j. get_or ws (q + j) 0) p k in (r.0, (len, m, e, r.1, r.2, h))
-    by Torn e k = absurd k
+    by : (x : Option Descriptor) → object_of ws t.limits.s (primary q) ≡ x → In p (pointers_of ws q x) → (j : ℕ) × Points t ws q j p
+    by (Some o) e k = let r = singles_in o.m (λ j. get_or ws (q + j) 0) p k in (r.0, (o.len, o.m, e, r.1, r.2, h))
+    by None e k = absurd k
 
 below_in : (t : Table) (ws : List ℕ) (q f j p : ℕ) → j < f → Points t ws q j p → In p (pointers_below ws q f (object_of ws t.limits.s (primary q)))
 below_in t ws q f j p l k = rw k.2 (in_singles (min f k.1) (λ j. get_or ws (q + j) 0) p j (omega (arith, k.3)) k.4)
@@ -79,11 +79,11 @@ in_below : (t : Table) (ws : List ℕ) (q f p : ℕ) → In p (pointers_below ws
     → (j : ℕ) × (j < f) × Points t ws q j p
 in_below t ws q f p i h = by (object_of ws t.limits.s (primary q)) refl i
   where
-    by : (x : Object) → object_of ws t.limits.s (primary q) ≡ x → In p (pointers_below ws q f x) → (j : ℕ) × (j < f) × Points t ws q j p
-    by (Whole len m) e k =
-        let r = singles_in (min f m) (λ j. get_or ws (q + j) 0) p k in
-        (r.0, omega (arith, r.1), (len, m, e, omega (arith, r.1), r.2, h))
-    by Torn e k = absurd k
+    by : (x : Option Descriptor) → object_of ws t.limits.s (primary q) ≡ x → In p (pointers_below ws q f x) → (j : ℕ) × (j < f) × Points t ws q j p
+    by (Some o) e k =
+        let r = singles_in (min f o.m) (λ j. get_or ws (q + j) 0) p k in
+        (r.0, omega (arith, r.1), (o.len, o.m, e, omega (arith, r.1), r.2, h))
+    by None e k = absurd k
 
 -- an object has at most 255 pointers, by its descriptor, and behind the buffer's end there is none
 few : (t : Table) (ws : List ℕ) (p : ℕ) → length (pointers_at t ws p) ≤ 255
@@ -98,23 +98,23 @@ few t ws p =
     d : ℕ
     d = get_or ws (p - 2) 0
 
-    if_torn : (b : Bool) (x : Object) → length (pointers_of ws p x) ≤ 255 → length (pointers_of ws p (pick b Torn x)) ≤ 255
+    if_torn : (b : Bool) (x : Option Descriptor) → length (pointers_of ws p x) ≤ 255 → length (pointers_of ws p (pick b None x)) ≤ 255
     if_torn true x h = omega arith
     if_torn false x h = h
 
 none : (t : Table) (ws : List ℕ) (p : ℕ) → length ws + 1 ≤ p → pointers_at t ws p ≡ []
 none t ws p l = by (object_of ws t.limits.s (primary p)) refl
   where
-    by : (x : Object) → object_of ws t.limits.s (primary p) ≡ x → pointers_of ws p x ≡ []
-    by (Whole len m) e = absurd (omega (arith, (whole_is ws t.limits.s p len m e).2))
-    by Torn e = refl
+    by : (x : Option Descriptor) → object_of ws t.limits.s (primary p) ≡ x → pointers_of ws p x ≡ []
+    by (Some o) e = absurd (omega (arith, (whole_is ws t.limits.s p o.len o.m e).2))
+    by None e = refl
 
 -- ---- where the search begins
 module _ (t : Table) (ws : List ℕ) where
-  made_reachable : (i p : ℕ) → i < t.limits.p → (d : Made) → (task_at t i).pending ≡ d → In p (filled_pointers t ws d) → p ≢ 0 → Reachable t ws p
-  made_reachable i p l Nothing e k h = absurd k
-  made_reachable i p l (Making q r len f) e k h =
-      let b = in_below t ws q.0 f p k h in in_pending q.0 i r len f b.0 l e b.1 b.2
+  made_reachable : (i p : ℕ) → i < t.limits.p → (d : Option Making) → (task_at t i).pending ≡ d → In p (filled_pointers t ws d) → p ≢ 0 → Reachable t ws p
+  made_reachable i p l None e k h = absurd k
+  made_reachable i p l (Some d) e k h =
+      let b = in_below t ws d.at.0 d.filled p k h in in_pending d.at.0 i d.register d.len d.filled b.0 l e b.1 b.2
 
   start_reachable : (p : ℕ) → In p (start_of t ws) → p ≢ 0 → Reachable t ws p
   start_reachable p i h = from (in_either p (roots_of t) (gather t.limits.p (held_by t ws)) i)
@@ -140,7 +140,7 @@ module _ (t : Table) (ws : List ℕ) where
       held_starts p i l
       (in_left p (registers_of (task_at t i)) (filled_pointers t ws (task_at t i).pending) (in_singles 8 (λ r. (register (task_at t i) r).0) p r m e))
 
-  made_starts : (p q i r len f j : ℕ) → i < t.limits.p → (task_at t i).pending ≡ Making (primary q) r len f → j < f → Points t ws q j p → In p (start_of t ws)
+  made_starts : (p q i r len f j : ℕ) → i < t.limits.p → (task_at t i).pending ≡ pending_with (primary q) r len f → j < f → Points t ws q j p → In p (start_of t ws)
   made_starts p q i r len f j l e m k =
       held_starts p i l
       (in_right p (registers_of (task_at t i)) (filled_pointers t ws (task_at t i).pending) (rw e (below_in t ws q f j p m k)))
@@ -167,10 +167,10 @@ module _ (t : Table) (ws : List ℕ) where
       _ (start_of t ws) [] (λ q j h. (h, start_reachable q j h)) (λ q j. absurd j) p i
 
   -- ---- what is pending
-  is_pending : (p i : ℕ) → i < t.limits.p → (d : Made) → (task_at t i).pending ≡ d → In p (pending_pointer d) → Pending t p
-  is_pending p i l Nothing e k = absurd k
-  is_pending p i l (Making q r len f) e (inl z) = rw z (i, l, r, len, f, e)
-  is_pending p i l (Making q r len f) e (inr k) = absurd k
+  is_pending : (p i : ℕ) → i < t.limits.p → (d : Option Making) → (task_at t i).pending ≡ d → In p (pending_pointer d) → Pending t p
+  is_pending p i l None e k = absurd k
+  is_pending p i l (Some d) e (inl z) = rw z (i, l, d.register, d.len, d.filled, e)
+  is_pending p i l (Some d) e (inr k) = absurd k
 
   pendings_pending : (p : ℕ) → In p (pendings_of t) → Pending t p
   pendings_pending p i =

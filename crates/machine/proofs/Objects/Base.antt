@@ -1,6 +1,6 @@
 -- Functions changed at one number, lists without a number twice, and sums: what the theory of the heap leans on.
 use Rattle.std.specs.Prelude.{◌≡◌, refl, ◌≢◌, List, [], ◌∷◌, true, false, ℕ, zero, suc, ◌+◌, ◌≤◌, ◌<◌, length, get_or, set, eqb}
-use Rattle.std.proofs.Common.{ap, arith, get_or-set_same, get_or-set_other, eq-eqb, ne_eqb}
+use Rattle.std.proofs.Common.{ap, arith, get_or-set_same, get_or-set_other, eq-eqb, ne_eqb, inl, inr}
 use Rattle.std.proofs.Math.Decide.{ℕ_discrete}
 use Rattle.machine.specs.Basics.{pick}
 use Rattle.machine.specs.Objects.Base.{In}
@@ -10,7 +10,7 @@ pub clash : {A : Type 0} → ◌≡◌ {A = ℕ} 0 1 → A
 clash e = absurd (omega arith)
 
 pub off_on : {A : Type 0} → false ≡ true → A
-off_on e = let z : ◌≡◌ {A = ℕ} 0 1 = cc in clash z
+off_on e = clash cc
 
 -- ---- a function changed at one number
 unfoldable pub upd : {A : Type 0} → (ℕ → A) → ℕ → A → ℕ → A
@@ -74,6 +74,24 @@ at_slot x i P p q a j = go (here? a j x i)
     go (yes e) = rw (e.0, e.1) p
     go (no h) = q a j h
 
+-- the same for a function of one number
+pub at_one : (x : ℕ) (P : ℕ → Type 0) → P x → ((a : ℕ) → a ≢ x → P a) → (a : ℕ) → P a
+at_one x P p q a = go (ℕ_discrete a x)
+  where
+    go : Dec (a ≡ x) → P a
+    go (yes e) = rw e p
+    go (no n) = q a n
+
+-- a number is in a list, or not
+pub in? : (x : ℕ) (l : List ℕ) → Dec (In x l)
+in? x [] = no (λ i. i)
+in? x (y ∷ l) = go (ℕ_discrete x y) (in? x l)
+  where
+    go : Dec (x ≡ y) → Dec (In x l) → Dec (In x (y ∷ l))
+    go (yes e) d = yes (inl e)
+    go (no f) (yes i) = yes (inr i)
+    go (no f) (no g) = no (elim [ inl e ↦ f e | inr i ↦ g i ])
+
 abbrev pub Nodup : List ℕ → Type 0
 Nodup [] = Unit {0}
 Nodup (x ∷ l) = (In x l → ⊥) × Nodup l
@@ -87,6 +105,17 @@ pub sum_to_ext : (n : ℕ) (f g : ℕ → ℕ) → ((x : ℕ) → x < n → f x 
 unfolding sum_to
 sum_to_ext zero f g h = refl
 sum_to_ext (suc n) f g h = omega (arith, h n (omega arith), sum_to_ext n f g (λ x l. h x (omega arith)))
+
+-- a sum of zeros, and one whose parts are at most 1
+pub sum_none : (n : ℕ) (f : ℕ → ℕ) → ((x : ℕ) → x < n → f x ≡ 0) → sum_to n f ≡ 0
+unfolding sum_to
+sum_none zero f h = refl
+sum_none (suc n) f h = omega (arith, h n (omega arith), sum_none n f (λ x l. h x (omega arith)))
+
+pub sum_ones : (n : ℕ) (f : ℕ → ℕ) → ((x : ℕ) → f x ≤ 1) → sum_to n f ≤ n
+unfolding sum_to
+sum_ones zero f h = omega arith
+sum_ones (suc n) f h = omega (arith, h n, sum_ones n f h)
 
 -- two functions that differ at x only: the sums differ as the values at x do
 pub sum_to_at : (n x : ℕ) (f g : ℕ → ℕ) → x < n → ((y : ℕ) → y ≢ x → f y ≡ g y) → sum_to n f + g x ≡ sum_to n g + f x

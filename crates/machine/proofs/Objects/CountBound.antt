@@ -3,7 +3,7 @@ use Rattle.std.specs.Prelude.{ℕ, zero, suc, ◌≤◌, ◌<◌, ◌≡◌, ref
 use Rattle.std.proofs.Common.{sym, inl, inr, arith, eq-eqb, ne_eqb, eqb-true}
 use Rattle.machine.specs.Basics.{pick}
 use Rattle.machine.specs.History.{Copy, InCopies, NoCopyTwice}
-use Rattle.machine.proofs.Objects.Base.{sum_to, sum_to_ext, sum_to_at}
+use Rattle.machine.proofs.Objects.Base.{sum_to, sum_to_ext, sum_to_at, sum_none, sum_ones}
 
 -- 1 if slot i of object x is among the copies, else 0
 abbrev is_copied : List Copy → ℕ → ℕ → ℕ
@@ -29,16 +29,6 @@ not_copied (c ∷ cs) x i h = by (eqb x c.object) (eqb i c.slot) refl refl (not_
     by false b p q e = e
 
 -- ---- sums
-sum_none : (n : ℕ) (f : ℕ → ℕ) → ((x : ℕ) → f x ≡ 0) → sum_to n f ≡ 0
-unfolding sum_to
-sum_none zero f h = refl
-sum_none (suc n) f h = omega (arith, h n, sum_none n f h)
-
-sum_ones : (n : ℕ) (f : ℕ → ℕ) → ((x : ℕ) → f x ≤ 1) → sum_to n f ≤ n
-unfolding sum_to
-sum_ones zero f h = omega arith
-sum_ones (suc n) f h = omega (arith, h n, sum_ones n f h)
-
 sum_most : (n : ℕ) (f g : ℕ → ℕ) → ((x : ℕ) → f x ≤ g x) → sum_to n f ≤ sum_to n g
 unfolding sum_to
 sum_most zero f g h = omega arith
@@ -47,7 +37,7 @@ sum_most (suc n) f g h = omega (arith, h n, sum_most n f g h)
 -- each copy counts once, at its object and slot
 copies_sum : (n : ℕ) (b : ℕ → ℕ) (cs : List Copy) → NoCopyTwice cs → ((x i : ℕ) → InCopies x i cs → (x ≤ n) × (i < b x))
     → sum_to (suc n) (λ x. sum_to (b x) (is_copied cs x)) ≡ length cs
-copies_sum n b [] d h = sum_none (suc n) (λ x. sum_to (b x) (is_copied [] x)) (λ x. sum_none (b x) (is_copied [] x) (λ i. refl))
+copies_sum n b [] d h = sum_none (suc n) (λ x. sum_to (b x) (is_copied [] x)) (λ x l. sum_none (b x) (is_copied [] x) (λ i m. refl))
 copies_sum n b (c ∷ cs) d h = go (copies_sum n b cs d.1 (λ x i q. h x i (inr q)))
   where
     l : (c.object ≤ n) × (c.slot < b c.object)

@@ -6,13 +6,13 @@ use Rattle.std.proofs.Math.Nat.{mul-add, mul-le-mul_left}
 use native.Mathlib.Omega.{arith}
 use Rattle.std.proofs.lemmas.Bool.{lt-leb}
 use Rattle.table.specs.declared.Primary.{Primary}
+use Rattle.machine.specs.Entries.{pending_with}
 use Rattle.table.specs.declared.Operand.{Operand}
-use Rattle.table.specs.declared.Copied.{Copied}
-use Rattle.table.specs.declared.Pending.TheVariants.{Making}
+use Rattle.table.specs.declared.Replica.{Replica}
 use Rattle.table.specs.declared.Place.{Place}
 use Rattle.table.specs.declared.Place.TheVariants.{Idle, New, FillWrite, FillCopy, Take}
 use Rattle.table.specs.declared.Task.{Task}
-use Rattle.machine.specs.Words.{primary}
+use Rattle.machine.specs.Words.{primary, wanted}
 use Rattle.machine.specs.Tasks.{holding_of}
 use Rattle.machine.specs.History.{Copy}
 use Rattle.machine.proofs.Objects.Base.{clash, upd, upd_same, upd_other, upd_all, sum_to, sum_to_ext}
@@ -77,9 +77,9 @@ module _ (sh : Shape) (g : Snapshot) (hd : ℕ → Hd) (len m : ℕ) (old : g.n 
 -- ---- the steps
 module _ {K : ℕ → Type 0} {k p s : ℕ} {o : State} {base a j copies : ℕ} {made : List Copy} {forgiven : ℕ → ℕ} (v : Inv K p s o) (on : o.on ≡ true)
     (c : Counts k p s o.shape o.snap o.hd o.stack o.tasks base a j copies made forgiven) (t : ℕ) (l : t < p) where
-  pub counts_makes : (r len m : ℕ) → (o.tasks t).place ≡ New r len m
+  pub counts_makes : (r len m : ℕ) → (o.tasks t).place ≡ New (wanted r len m)
       → Counts k p s (one_more o.shape len m) o.snap o.hd o.stack
-      (upd o.tasks t (goes_with (o.tasks t) (Making (primary (suc o.shape.n)) r len 0) (Take (2 * k)))) base (a + 2 * (len + 2)) j copies made forgiven
+      (upd o.tasks t (goes_with (o.tasks t) (pending_with (primary (suc o.shape.n)) r len 0) (Take (2 * k)))) base (a + 2 * (len + 2)) j copies made forgiven
   unfolding holding_of
   counts_makes r len m ep = record {
     words = rw (claims_more o.shape o.snap o.hd len m known) (omega (arith, c.words));
@@ -109,13 +109,13 @@ module _ {K : ℕ → Type 0} {k p s : ℕ} {o : State} {base a j copies : ℕ} 
   }
     where
       e' : Task
-      e' = goes_with (o.tasks t) (Making (primary (suc o.shape.n)) r len 0) (Take (2 * k))
+      e' = goes_with (o.tasks t) (pending_with (primary (suc o.shape.n)) r len 0) (Take (2 * k))
 
       nw : NewOk s (o.tasks t) r len m
-      nw = at_place_lem v t (New r len m) ep
+      nw = at_place_lem v t (New (wanted r len m)) ep
 
       none : forgiven t ≡ 0
-      none = unforgiven v on c t l (New r len m) ep (λ q. let z : ◌≡◌ {A = ℕ} 0 1 = cc in clash z)
+      none = unforgiven v on c t l (New (wanted r len m)) ep (λ q. clash cc)
 
       before : owing k (forgiven t) (o.tasks t) ≡ 0
       before = rw (ep, nw.0, none) (omega arith)
@@ -138,19 +138,19 @@ module _ {K : ℕ → Type 0} {k p s : ℕ} {o : State} {base a j copies : ℕ} 
           (λ f d. let n : ℕ = suc o.shape.n in absurd (omega (arith, (on_colours v on).older n, v.shapes.filled n, v.shapes.written n, (v.shapes.future n (omega arith)).1)))
           (λ b q f d. d) b f
 
-  pub counts_fills : (w : Copied) (x : Primary) (r len f : ℕ) → (o.tasks t).place ≡ FillCopy w → (o.tasks t).pending ≡ Making x r len f
-      → Counts k p s (filled_one o.shape x.0) o.snap o.hd o.stack (upd o.tasks t (goes_with (o.tasks t) (Making x r len (f + 1)) (Take k)))
+  pub counts_fills : (w : Operand Replica) (x : Primary) (r len f : ℕ) → (o.tasks t).place ≡ FillCopy w → (o.tasks t).pending ≡ pending_with x r len f
+      → Counts k p s (filled_one o.shape x.0) o.snap o.hd o.stack (upd o.tasks t (goes_with (o.tasks t) (pending_with x r len (f + 1)) (Take k)))
       base a j copies made forgiven
   unfolding holding_of
   counts_fills w x r len f ep ed =
       filled_counts x.0
-      (counts_moves v on c t l (goes_with (o.tasks t) (Making x r len (f + 1)) (Take k)) (omega (arith, owed)) (omega (arith, owed, c.most t)) (λ x q. absurd q)
-      (λ h. absurd (omega (arith, unforgiven v on c t l (FillCopy w) ep (λ q. let z : ◌≡◌ {A = ℕ} 0 1 = cc in clash z)))))
+      (counts_moves v on c t l (goes_with (o.tasks t) (pending_with x r len (f + 1)) (Take k)) (omega (arith, owed)) (omega (arith, owed, c.most t)) (λ x q. absurd q)
+      (λ h. absurd (omega (arith, unforgiven v on c t l (FillCopy w) ep (λ q. clash cc)))))
     where
       h : PlaceOk K s o.shape o.hd o.prim o.rep o.has (Meeting o.tasks) o.on t (o.tasks t) (FillCopy w)
       h = at_place_lem v t (FillCopy w) ep
 
-      pend : PendingOk K o.shape o.hd o.on (Making x r len f)
+      pend : PendingOk K o.shape o.hd o.on (pending_with x r len f)
       pend = rw ed at (v.entries t).pending
 
       less : f < len
@@ -160,10 +160,10 @@ module _ {K : ℕ → Type 0} {k p s : ℕ} {o : State} {base a j copies : ℕ} 
       one : (n d : ℕ) → n ≡ suc d → k + k * d ≡ k * n
       one n d e = rw e (omega arith)
 
-      owed : owing k (forgiven t) (goes_with (o.tasks t) (Making x r len (f + 1)) (Take k)) ≡ owing k (forgiven t) (o.tasks t)
+      owed : owing k (forgiven t) (goes_with (o.tasks t) (pending_with x r len (f + 1)) (Take k)) ≡ owing k (forgiven t) (o.tasks t)
       owed = rw (ep, ed) (omega (arith, one (len - f) (len - (f + 1)) (omega (arith, less))))
 
-  pub counts_half : (w : Operand) (x : Primary) (pl : Place) → (o.tasks t).place ≡ FillWrite w → left_to_pay pl ≡ 0 → ((y : ℕ) → ClaimIn (holding_of pl) y → ⊥)
+  pub counts_half : (w : Operand Primary) (x : Primary) (pl : Place) → (o.tasks t).place ≡ FillWrite w → left_to_pay pl ≡ 0 → ((y : ℕ) → ClaimIn (holding_of pl) y → ⊥)
       → Counts k p s (wrote_one o.shape x.0) o.snap o.hd o.stack (upd o.tasks t (goes (o.tasks t) pl)) base a j copies made forgiven
   counts_half w x pl ep pays free =
-      wrote_counts x.0 (counts_goes v on c t l (FillWrite w) pl ep (λ q. let z : ◌≡◌ {A = ℕ} 0 1 = cc in clash z) pays free)
+      wrote_counts x.0 (counts_goes v on c t l (FillWrite w) pl ep (λ q. clash cc) pays free)

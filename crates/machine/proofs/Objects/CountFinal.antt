@@ -33,25 +33,25 @@ job_locked : (K : ℕ → Type 0) (s : ℕ) (sh : Shape) (hd : ℕ → Hd) (prim
     (pl : Place) → PlaceOk K s sh hd prim rep has Mt on t e pl → (jobs_in (holding_of pl) ≡ 0) ⊎ ((x i : ℕ) × (hd x ≡ locked i t))
 unfolding holding_of
 job_locked K s sh hd prim rep has Mt on t e Idle h = inl refl
-job_locked K s sh hd prim rep has Mt on t e (New r len m) h = inl refl
-job_locked K s sh hd prim rep has Mt on t e (Asked r len m) h = inl refl
+job_locked K s sh hd prim rep has Mt on t e (New want) h = inl refl
+job_locked K s sh hd prim rep has Mt on t e (Asked want) h = inl refl
 job_locked K s sh hd prim rep has Mt on t e (FillWrite v) h = inl refl
 job_locked K s sh hd prim rep has Mt on t e (FillCopy c) h = inl refl
 job_locked K s sh hd prim rep has Mt on t e (StoreWrite v) h = inl refl
 job_locked K s sh hd prim rep has Mt on t e (Meet v) h = inl refl
 job_locked K s sh hd prim rep has Mt on t e (StoreCopy c) h = inl refl
 job_locked K s sh hd prim rep has Mt on t e (Take n) h = inl refl
-job_locked K s sh hd prim rep has Mt on t e (Read n x i) h = inr (x.0, i, h.2)
-job_locked K s sh hd prim rep has Mt on t e (Put n x i c) h = inr (x.0, i, h.2)
-job_locked K s sh hd prim rep has Mt on t e (Release n x i) h = inr (x.0, i, h.2)
+job_locked K s sh hd prim rep has Mt on t e (Read n job) h = inr (job.object.0, job.index, h.2)
+job_locked K s sh hd prim rep has Mt on t e (Put n job c) h = inr (job.object.0, job.index, h.2)
+job_locked K s sh hd prim rep has Mt on t e (Release n job) h = inr (job.object.0, job.index, h.2)
 job_locked K s sh hd prim rep has Mt on t e (Looking q (ToWrite v)) h = inl refl
 job_locked K s sh hd prim rep has Mt on t e (Looking q ToStoreCopy) h = inl refl
 job_locked K s sh hd prim rep has Mt on t e (Looking q ToFillCopy) h = inl refl
-job_locked K s sh hd prim rep has Mt on t e (Looking q (ToPut n x i)) h = inr (x.0, i, h.3.1)
+job_locked K s sh hd prim rep has Mt on t e (Looking q (ToPut n job)) h = inr (job.object.0, job.index, h.3.1)
 job_locked K s sh hd prim rep has Mt on t e (Placing q (ToWrite v)) h = inl refl
 job_locked K s sh hd prim rep has Mt on t e (Placing q ToStoreCopy) h = inl refl
 job_locked K s sh hd prim rep has Mt on t e (Placing q ToFillCopy) h = inl refl
-job_locked K s sh hd prim rep has Mt on t e (Placing q (ToPut n x i)) h = inr (x.0, i, h.4.1)
+job_locked K s sh hd prim rep has Mt on t e (Placing q (ToPut n job)) h = inr (job.object.0, job.index, h.4.1)
 
 module _ {K : ℕ → Type 0} {k p s : ℕ} {o : State} {base a j copies : ℕ} {made : List Copy} {forgiven : ℕ → ℕ} (v : Inv K p s o) (on : o.on ≡ true)
     (c : Counts k p s o.shape o.snap o.hd o.stack o.tasks base a j copies made forgiven) where

@@ -5,11 +5,11 @@ use Rattle.std.proofs.Math.Decide.{ℕ_discrete}
 use Rattle.table.specs.declared.Primary.{Primary}
 use Rattle.table.specs.declared.Replica.{Replica}
 use Rattle.table.specs.declared.Then.{Then}
-use Rattle.table.specs.declared.Then.TheVariants.{ToWrite, ToStoreCopy, ToFillCopy, ToPut}
+use Rattle.table.specs.declared.Then.TheVariants.{ToWrite}
 use Rattle.table.specs.declared.Place.TheVariants.{Take, Read, Release, Looking, Placing}
 use Rattle.table.specs.declared.Task.{Task}
 use Rattle.machine.specs.Basics.{pick}
-use Rattle.machine.specs.Words.{primary, replica}
+use Rattle.machine.specs.Words.{primary, replica, slot_at}
 use Rattle.machine.specs.Tasks.{holding_of}
 use Rattle.machine.specs.Look.{go_on}
 use Rattle.machine.specs.Switch.{ended_entry}
@@ -39,24 +39,22 @@ greys_sum : (n : ℕ) (hd : ℕ → Hd) (y : ℕ) (h : Hd) → y < n
 greys_sum n hd y h l =
     rw (upd_same hd y h) at (sum_to_at n y (λ x. is_grey (upd hd y h x)) (λ x. is_grey (hd x)) l (λ x d. rw (upd_other hd y h x d) refl))
 
-push_length : (i x : ℕ) (st : List ℕ) → length (push i x st) ≡ length st + is_grey (count i)
-push_length zero x st = omega arith
-push_length (suc i) x st = rw (ne_eqb (suc i) 0 (λ q. omega arith)) (omega arith)
+-- one with a slot to copy is pushed
+pub push_length : (c x : ℕ) (stack : List ℕ) → length (push c x stack) ≡ length stack + is_grey (count c)
+push_length zero x stack = omega arith
+push_length (suc c) x stack = rw (ne_eqb (suc c) 0 (λ e. omega arith)) (omega arith)
 
 -- ---- places
-placing_claims : (q : Primary) (th : Then) → ClaimIn (holding_of (Placing q th)) q.0
+-- a task that places an object claims it
+pub placing_claims : (q : Primary) (th : Then) → ClaimIn (holding_of (Placing q th)) q.0
 unfolding holding_of
 placing_claims q (ToWrite v) = refl
-placing_claims q ToStoreCopy = refl
-placing_claims q ToFillCopy = refl
-placing_claims q (ToPut n x i) = refl
+placing_claims q _ = refl
 
 -- what follows a look pays what the look was to pay
 pub on_left : (th : Then) (r : Replica) → left_to_pay (go_on th r) ≡ then_left th
 on_left (ToWrite v) r = refl
-on_left ToStoreCopy r = refl
-on_left ToFillCopy r = refl
-on_left (ToPut n x i) r = refl
+on_left _ r = refl
 
 -- ---- one header
 -- header of y from h₀ to h; the entry of task t from e to e'; nothing was forgiven
@@ -121,14 +119,14 @@ module _ {K : ℕ → Type 0} {k p s : ℕ} {o : State} {base a j copies : ℕ} 
     each = λ i z. absurd z;
     paid = rw ep (omega arith);
     most = rw ep at (c.most t);
-    forgave = λ u z. let w = forgiven_final v on c u z q.0 h.2.0 h.2.1 in let n : ◌≡◌ {A = ℕ} 0 1 = cc in clash n;
+    forgave = λ u z. let w = forgiven_final v on c u z q.0 h.2.0 h.2.1 in clash cc;
   }
     where
       h : PlaceOk K s o.shape o.hd o.prim o.rep o.has (Meeting o.tasks) o.on t (o.tasks t) (Looking q th)
       h = at_place_lem v t (Looking q th) ep
 
       old : q.0 ≤ o.snap.n
-      old = not_new v on q.0 white e (λ w. let n : ◌≡◌ {A = ℕ} 0 1 = cc in clash n)
+      old = not_new v on q.0 white e (λ w. clash cc)
 
   pub counts_places : (q : Primary) (th : Then) → (o.tasks t).place ≡ Placing q th
       → Counts k p s o.shape o.snap (upd o.hd q.0 (count (o.shape.len q.0))) (push (o.shape.len q.0) q.0 o.stack)
@@ -157,10 +155,10 @@ module _ {K : ℕ → Type 0} {k p s : ℕ} {o : State} {base a j copies : ℕ} 
       e = h.3
 
       old : q.0 ≤ o.snap.n
-      old = not_new v on q.0 (claimed t) e (λ w. let n : ◌≡◌ {A = ℕ} 0 1 = cc in clash n)
+      old = not_new v on q.0 (claimed t) e (λ w. clash cc)
 
   pub counts_takes : (n x i : ℕ) (st : List ℕ) → (o.tasks t).place ≡ Take n → o.stack ≡ x ∷ st → o.hd x ≡ count (suc i)
-      → Counts k p s o.shape o.snap (upd o.hd x (locked i t)) st (upd o.tasks t (goes (o.tasks t) (Read n (primary x) i))) base a (j + 1) copies made forgiven
+      → Counts k p s o.shape o.snap (upd o.hd x (locked i t)) st (upd o.tasks t (goes (o.tasks t) (Read n (slot_at (primary x) i)))) base a (j + 1) copies made forgiven
   counts_takes n x i st ep es e = counts_head v on c l record {
     some = ((on_colours v on).stacked x (rw es (inl refl))).0;
     old = old;
@@ -175,14 +173,14 @@ module _ {K : ℕ → Type 0} {k p s : ℕ} {o : State} {base a j copies : ℕ} 
     each = λ m z f b. c.each x m ((on_colours v on).stacked x (rw es (inl refl))).0 old (rw e tt) (rw e f) b;
     paid = rw ep (omega arith);
     most = rw ep at (c.most t);
-    forgave = λ u z. let w : x ∷ st ≡ [] = sym es ∙ (c.forgave u z).0 in let n : ◌≡◌ {A = ℕ} 0 1 = cc in clash n;
+    forgave = λ u z. let w : x ∷ st ≡ [] = sym es ∙ (c.forgave u z).0 in clash cc;
   }
     where
       old : x ≤ o.snap.n
-      old = not_new v on x (count (suc i)) e (λ w. let z : ◌≡◌ {A = ℕ} (suc i) 0 = cc in absurd (omega arith))
+      old = not_new v on x (count (suc i)) e (λ w. clash cc)
 
   -- a copy is made; the task's entry becomes e', with one copy less to pay
-  released : (n : ℕ) (x : Primary) (i : ℕ) (e' : Task) → (o.tasks t).place ≡ Release n x i → 1 ≤ j → left_to_pay e'.place ≡ n - 1
+  released : (n : ℕ) (x : Primary) (i : ℕ) (e' : Task) → (o.tasks t).place ≡ Release n (slot_at x i) → 1 ≤ j → left_to_pay e'.place ≡ n - 1
       → unfilled e'.pending ≡ unfilled (o.tasks t).pending
       → Counts k p s o.shape o.snap (upd o.hd x.0 (count i)) (push i x.0 o.stack) (upd o.tasks t e') base a (j - 1) (copies + 1)
       (copy x.0 i ∷ made) forgiven
@@ -203,8 +201,8 @@ module _ {K : ℕ → Type 0} {k p s : ℕ} {o : State} {base a j copies : ℕ} 
     forgave = λ u z. absurd (omega (arith, (c.forgave u z).1));
   }
     where
-      h : PlaceOk K s o.shape o.hd o.prim o.rep o.has (Meeting o.tasks) o.on t (o.tasks t) (Release n x i)
-      h = at_place_lem v t (Release n x i) ep
+      h : PlaceOk K s o.shape o.hd o.prim o.rep o.has (Meeting o.tasks) o.on t (o.tasks t) (Release n (slot_at x i))
+      h = at_place_lem v t (Release n (slot_at x i)) ep
 
       e : o.hd x.0 ≡ locked i t
       e = h.2
@@ -213,7 +211,7 @@ module _ {K : ℕ → Type 0} {k p s : ℕ} {o : State} {base a j copies : ℕ} 
       some = (v.owners.locker x.0 i t e).1
 
       old : x.0 ≤ o.snap.n
-      old = not_new v on x.0 (locked i t) e (λ w. let n : ◌≡◌ {A = ℕ} 0 1 = cc in clash n)
+      old = not_new v on x.0 (locked i t) e (λ w. clash cc)
 
       -- the slot in hand was filled at the flip
       held : suc i ≤ o.snap.fill x.0
@@ -231,13 +229,13 @@ module _ {K : ℕ → Type 0} {k p s : ℕ} {o : State} {base a j copies : ℕ} 
       each m (yes z) f b = inl (refl, z)
       each m (no d) f b = inr (c.each x.0 m some old (rw e tt) (rw e (omega arith)) b)
 
-  pub counts_releases : (n : ℕ) (x : Primary) (i : ℕ) → (o.tasks t).place ≡ Release n x i → 1 ≤ j
+  pub counts_releases : (n : ℕ) (x : Primary) (i : ℕ) → (o.tasks t).place ≡ Release n (slot_at x i) → 1 ≤ j
       → Counts k p s o.shape o.snap (upd o.hd x.0 (count i)) (push i x.0 o.stack) (upd o.tasks t (goes (o.tasks t) (Take (n - 1)))) base a (j - 1)
       (copies + 1) (copy x.0 i ∷ made) forgiven
   counts_releases n x i ep jobs = released n x i (goes (o.tasks t) (Take (n - 1))) ep jobs refl refl
 
   -- the last copy of the payment: the instruction ends
-  pub counts_releases_last : (n : ℕ) (x : Primary) (i : ℕ) → (o.tasks t).place ≡ Release n x i → n ≡ 1 → 1 ≤ j
+  pub counts_releases_last : (n : ℕ) (x : Primary) (i : ℕ) → (o.tasks t).place ≡ Release n (slot_at x i) → n ≡ 1 → 1 ≤ j
       → Counts k p s o.shape o.snap (upd o.hd x.0 (count i)) (push i x.0 o.stack)
       (upd o.tasks t (ended_entry (o.tasks t).regs (o.tasks t).pending)) base a (j - 1) (copies + 1) (copy x.0 i ∷ made) forgiven
   counts_releases_last n x i ep one jobs =

@@ -1,19 +1,17 @@
 -- One entry changes, and nothing else that is counted: words, copies and payments are kept.
-use Rattle.std.specs.Prelude.{ℕ, zero, suc, ◌+◌, ◌-◌, ◌*◌, ◌≤◌, ◌<◌, ◌≢◌, List, [], Bool, true, false, set, eqb}
+use Rattle.std.specs.Prelude.{ℕ, zero, suc, ◌+◌, ◌-◌, ◌*◌, ◌≤◌, ◌<◌, ◌≢◌, List, [], Bool, true, false, set, eqb, Option, Some, None}
 use Rattle.std.proofs.Math.Path.{◌≡◌, refl}
 use Rattle.std.proofs.Common.{sym, ◌∙◌, arith, eqb-true}
 use Rattle.std.proofs.Math.Decide.{dec_lt}
 use Rattle.std.proofs.Math.Nat.{mul-le-mul_left}
 use Rattle.table.specs.declared.Primary.{Primary}
-use Rattle.table.specs.declared.Pending.{Pending}
-use Rattle.table.specs.declared.Pending.TheVariants.{Nothing, Making}
-use Rattle.table.specs.declared.Storing.TheVariants.{Nowhere}
+use Rattle.table.specs.declared.Making.{Making}
+use Rattle.table.specs.declared.Operand.{Operand}
 use Rattle.table.specs.declared.Place.{Place}
 use Rattle.table.specs.declared.Place.TheVariants.{Idle, New, StoreWrite, Meet, Take}
-use Rattle.table.specs.declared.Operand.{Operand}
 use Rattle.table.specs.declared.Task.{Task}
 use Rattle.machine.specs.Basics.{pick}
-use Rattle.machine.specs.Entries.{entry}
+use Rattle.machine.specs.Entries.{entry, pending_with}
 use Rattle.machine.specs.Tasks.{holding_of}
 use Rattle.machine.specs.Setup.{fresh_task}
 use Rattle.machine.specs.Switch.{ended_entry}
@@ -23,6 +21,7 @@ use Rattle.machine.proofs.Objects.State.{State, ClaimIn, HasClaim}
 use Rattle.machine.proofs.Objects.Inv.{PendingOk, Inv}
 use Rattle.machine.proofs.Objects.Ops.{goes}
 use Rattle.machine.proofs.Objects.Counts.{left_to_pay, unfilled, owing, Counts}
+use Rattle.machine.specs.Words.{wanted}
 
 -- ---- sums over the tasks
 -- one entry changes, and what was forgiven its task: what all owe changes as what that task owes
@@ -36,23 +35,23 @@ owing_sum k p f f' ts t e l h =
 pub unfilled_most : {K : ℕ → Type 0} {p s : ℕ} {o : State} → Inv K p s o → (t : ℕ) → unfilled (o.tasks t).pending ≤ s
 unfilled_most {K} {p} {s} {o} v t = by (o.tasks t).pending (v.entries t).pending
   where
-    by : (d : Pending) → PendingOk K o.shape o.hd o.on d → unfilled d ≤ s
-    by Nothing h = omega arith
-    by (Making x r len f) h = omega (arith, h.3, v.shapes.high x.0 h.2)
+    by : (d : Option Making) → PendingOk K o.shape o.hd o.on d → unfilled d ≤ s
+    by None h = omega arith
+    by (Some d) h = omega (arith, h.3, v.shapes.high d.at.0 h.2)
 
 -- at the end of an instruction the task is idle, and has as much to fill as before
-pub ended_owes : (regs : List Primary) (d : Pending) → ((ended_entry regs d).place ≡ Idle) × (unfilled (ended_entry regs d).pending ≡ unfilled d)
-ended_owes regs Nothing = (refl, refl)
-ended_owes regs (Making x r len f) = by (eqb f len) refl
+pub ended_owes : (regs : List Primary) (d : Option Making) → ((ended_entry regs d).place ≡ Idle) × (unfilled (ended_entry regs d).pending ≡ unfilled d)
+ended_owes regs None = (refl, refl)
+ended_owes regs (Some d) = by (eqb d.filled d.len) refl
   where
     over : Bool → Task
-    over b = pick b (entry (set regs r x) Nothing Nowhere Idle) (entry regs (Making x r len f) Nowhere Idle)
+    over b = pick b (entry (set regs d.register d.at) None None Idle) (entry regs (Some d) None Idle)
 
-    by : (b : Bool) → eqb f len ≡ b → ((over b).place ≡ Idle) × (unfilled (over b).pending ≡ len - f)
-    by true e = (refl, omega (arith, eqb-true f len e))
+    by : (b : Bool) → eqb d.filled d.len ≡ b → ((over b).place ≡ Idle) × (unfilled (over b).pending ≡ d.len - d.filled)
+    by true e = (refl, omega (arith, eqb-true d.filled d.len e))
     by false e = (refl, refl)
 
-pub ended_claims : (regs : List Primary) (d : Pending) (x : ℕ) → HasClaim (ended_entry regs d) x → ⊥
+pub ended_claims : (regs : List Primary) (d : Option Making) (x : ℕ) → HasClaim (ended_entry regs d) x → ⊥
 unfolding holding_of
 ended_claims regs d x h = rw (ended_owes regs d).0 at h
 
@@ -112,13 +111,13 @@ module _ {K : ℕ → Type 0} {k p s : ℕ} {o : State} {base a j copies : ℕ} 
       (omega (arith, unforgiven pl₀ ep d, mul-le-mul_left k (unfilled_most v t))) (λ x q. absurd q) (λ h. absurd (omega (arith, unforgiven pl₀ ep d)))
 
   -- the primary write of a Store
-  pub counts_stores : (w : Operand) → (o.tasks t).place ≡ StoreWrite w
+  pub counts_stores : (w : Operand Primary) → (o.tasks t).place ≡ StoreWrite w
       → Counts k p s o.shape o.snap o.hd o.stack (upd o.tasks t (goes (o.tasks t) (Meet w))) base a j copies made forgiven
   unfolding holding_of
-  counts_stores w ep = counts_goes (StoreWrite w) (Meet w) ep (λ q. let z : ◌≡◌ {A = ℕ} 0 1 = cc in clash z) refl (λ x q. q)
+  counts_stores w ep = counts_goes (StoreWrite w) (Meet w) ep (λ q. clash cc) refl (λ x q. q)
 
   -- a New is refused
-  pub counts_ends_new : (r len m : ℕ) → (o.tasks t).place ≡ New r len m
+  pub counts_ends_new : (r len m : ℕ) → (o.tasks t).place ≡ New (wanted r len m)
       → Counts k p s o.shape o.snap o.hd o.stack (upd o.tasks t (ended_entry (o.tasks t).regs (o.tasks t).pending)) base a j copies made forgiven
   counts_ends_new r len m ep =
       let z = ended_owes (o.tasks t).regs (o.tasks t).pending in
@@ -158,4 +157,4 @@ module _ {K : ℕ → Type 0} {k p s : ℕ} {o : State} {base a j copies : ℕ} 
       z = ended_owes (o.tasks t).regs (o.tasks t).pending
 
       same : owing k (upd forgiven t n t) e' ≡ owing k (forgiven t) (o.tasks t)
-      same = rw (upd_same forgiven t n, z.0, z.1, ep, unforgiven (Take n) ep (λ q. let z : ◌≡◌ {A = ℕ} 0 1 = cc in clash z)) (omega arith)
+      same = rw (upd_same forgiven t n, z.0, z.1, ep, unforgiven (Take n) ep (λ q. clash cc)) (omega arith)

@@ -1,7 +1,6 @@
 -- Words, copies and payments, while collecting: what each object claims, what has been copied, what each task owes.
-use Rattle.std.specs.Prelude.{ℕ, zero, suc, ◌+◌, ◌-◌, ◌*◌, ◌≤◌, ◌<◌, ◌≡◌, List, [], Bool, true, false, length, leb, eqb}
-use Rattle.table.specs.declared.Pending.{Pending}
-use Rattle.table.specs.declared.Pending.TheVariants.{Nothing, Making}
+use Rattle.std.specs.Prelude.{ℕ, zero, suc, ◌+◌, ◌-◌, ◌*◌, ◌≤◌, ◌<◌, ◌≡◌, List, [], Bool, true, false, length, leb, eqb, Option, Some, None}
+use Rattle.table.specs.declared.Making.{Making}
 use Rattle.table.specs.declared.Then.{Then}
 use Rattle.table.specs.declared.Then.TheVariants.{ToWrite, ToStoreCopy, ToFillCopy, ToPut}
 use Rattle.table.specs.declared.Place.{Place}
@@ -42,28 +41,28 @@ abbrev pub then_left : Then → ℕ
 then_left (ToWrite v) = 0
 then_left ToStoreCopy = 0
 then_left ToFillCopy = 0
-then_left (ToPut n x i) = n
+then_left (ToPut n job) = n
 
 abbrev pub left_to_pay : Place → ℕ
 left_to_pay Idle = 0
-left_to_pay (New r len m) = 0
-left_to_pay (Asked r len m) = 0
+left_to_pay (New want) = 0
+left_to_pay (Asked want) = 0
 left_to_pay (FillWrite v) = 0
 left_to_pay (FillCopy c) = 0
 left_to_pay (StoreWrite v) = 0
 left_to_pay (Meet v) = 0
 left_to_pay (StoreCopy c) = 0
 left_to_pay (Take n) = n
-left_to_pay (Read n x i) = n
-left_to_pay (Put n x i c) = n
-left_to_pay (Release n x i) = n
+left_to_pay (Read n job) = n
+left_to_pay (Put n job c) = n
+left_to_pay (Release n job) = n
 left_to_pay (Looking q th) = then_left th
 left_to_pay (Placing q th) = then_left th
 
 -- slots of its pending object still to fill
-abbrev pub unfilled : Pending → ℕ
-unfilled Nothing = 0
-unfilled (Making x r len f) = len - f
+abbrev pub unfilled : Option Making → ℕ
+unfilled None = 0
+unfilled (Some d) = d.len - d.filled
 
 -- what a task still owes: the payment in hand, k for each slot to fill, and what was forgiven it when nothing was grey
 abbrev pub owing : ℕ → ℕ → Task → ℕ

@@ -1,16 +1,14 @@
 -- The entry of a task whose instruction has ended: idle, and a pending object with all its slots filled is in its register.
-use Rattle.std.specs.Prelude.{ℕ, ◌≤◌, ◌<◌, ◌≡◌, refl, ◌≢◌, List, Bool, true, false, length, set, eqb, ltb}
+use Rattle.std.specs.Prelude.{ℕ, ◌≤◌, ◌<◌, ◌≡◌, refl, ◌≢◌, List, Bool, true, false, length, set, eqb, ltb, None}
 use Rattle.std.proofs.Common.{sym, ◌∙◌, arith, length-set, eqb-true, ltb-true, ltb-false}
 use Rattle.std.proofs.Math.Decide.{ℕ_discrete}
 use Rattle.std.proofs.Math.Seq.{set_out}
 use Rattle.std.proofs.lemmas.Bool.{eqb-false}
 use Rattle.table.specs.declared.Primary.{Primary}
-use Rattle.table.specs.declared.Pending.TheVariants.{Nothing, Making}
-use Rattle.table.specs.declared.Storing.TheVariants.{Nowhere}
 use Rattle.table.specs.declared.Place.TheVariants.{Idle}
 use Rattle.table.specs.declared.Task.{Task}
 use Rattle.machine.specs.Basics.{pick}
-use Rattle.machine.specs.Entries.{entry, nil}
+use Rattle.machine.specs.Entries.{entry, nil, pending_with}
 use Rattle.machine.specs.Switch.{ended_entry}
 use Rattle.machine.proofs.Objects.Base.{set_all}
 use Rattle.machine.proofs.Objects.State.{Hd, Shape, root, pending_is}
@@ -29,15 +27,15 @@ pub record EndedOk (K : ℕ → Type 0) (sh : Shape) (hd : ℕ → Hd) (on : Boo
   pub mine : EntryOk K sh hd on e
   pub idle : e.place ≡ Idle
   pub unfull : Unfull e.pending
-  pub nowhere : e.storing ≡ Nowhere
+  pub nowhere : e.storing ≡ None
   pub only : 0 < pending_is e.pending → pending_is e.pending ≡ x
 
 pub ended_ok : (K : ℕ → Type 0) (sh : Shape) (hd : ℕ → Hd) (on : Bool) (regs : List Primary) (x : Primary) (r len f : ℕ)
-    → length regs ≡ 8 → ((a : ℕ) → Sound K sh (root regs a)) → PendingOk K sh hd on (Making x r len f) → f ≤ len
-    → EndedOk K sh hd on x.0 (ended_entry regs (Making x r len f))
+    → length regs ≡ 8 → ((a : ℕ) → Sound K sh (root regs a)) → PendingOk K sh hd on (pending_with x r len f) → f ≤ len
+    → EndedOk K sh hd on x.0 (ended_entry regs (pending_with x r len f))
 ended_ok K sh hd on regs x r len f eight h m l = by (eqb f len) refl
   where
-    by : (b : Bool) → eqb f len ≡ b → EndedOk K sh hd on x.0 (pick b (entry (set regs r x) Nothing Nowhere Idle) (entry regs (Making x r len f) Nowhere Idle))
+    by : (b : Bool) → eqb f len ≡ b → EndedOk K sh hd on x.0 (pick b (entry (set regs r x) None None Idle) (entry regs (pending_with x r len f) None Idle))
     by true e = record {
       mine = record {
         eight = length-set regs r x ∙ eight;

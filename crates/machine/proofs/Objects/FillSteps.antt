@@ -1,17 +1,15 @@
 -- The steps of a Fill keep the invariant: the primary's slot is written; the replica's slot is written and counted; off, both at once.
-use Rattle.std.specs.Prelude.{ℕ, suc, ◌+◌, ◌≤◌, ◌<◌, ◌≡◌, ◌≢◌, Bool, false, ltb, eqb}
+use Rattle.std.specs.Prelude.{ℕ, suc, ◌+◌, ◌≤◌, ◌<◌, ◌≡◌, ◌≢◌, Bool, false, ltb, eqb, Option, Some, None}
 use Rattle.std.proofs.Math.Path.{refl}
 use Rattle.std.proofs.Common.{sym, ◌∙◌, inl, arith, eqb-true}
 use Rattle.std.proofs.Math.Bool.{true}
 use Rattle.std.proofs.lemmas.Bool.{eqb-false}
 use Rattle.table.specs.declared.Primary.{Primary}
+use Rattle.machine.specs.Entries.{pending_with}
+use Rattle.table.specs.declared.Slot.{Slot}
 use Rattle.table.specs.declared.Operand.{Operand}
+use Rattle.table.specs.declared.Replica.{Replica}
 use Rattle.table.specs.declared.Operand.TheVariants.{Plain, Pointer}
-use Rattle.table.specs.declared.Copied.{Copied}
-use Rattle.table.specs.declared.Copied.TheVariants.{Renamed}
-use Rattle.table.specs.declared.Pending.TheVariants.{Making}
-use Rattle.table.specs.declared.Storing.{Storing}
-use Rattle.table.specs.declared.Storing.TheVariants.{Nowhere, Slot}
 use Rattle.table.specs.declared.Then.TheVariants.{ToFillCopy}
 use Rattle.table.specs.declared.Place.TheVariants.{FillWrite, FillCopy, Take, Looking}
 use Rattle.table.specs.declared.Task.{Task}
@@ -31,35 +29,35 @@ use Rattle.machine.proofs.Objects.StoreSteps.{pos, pointer_sound, renamed_sound}
 use Rattle.machine.proofs.Objects.Ended.{EndedOk, ended_ok}
 use Rattle.machine.proofs.Objects.FillLaws.{wrote_shapes, wrote_colours, filled_sound, filled_shapes, filled_colours}
 
-operand_sound : (K : ℕ → Type 0) (sh sh' : Shape) → ((a : ℕ) → Sound K sh a → Sound K sh' a) → (w : Operand) → SoundOperand K sh w → SoundOperand K sh' w
+operand_sound : (K : ℕ → Type 0) (sh sh' : Shape) → ((a : ℕ) → Sound K sh a → Sound K sh' a) → (w : Operand Primary) → SoundOperand K sh w → SoundOperand K sh' w
 operand_sound K sh sh' f (Plain u) z = tt
 operand_sound K sh sh' f (Pointer q) z = f q.0 z
 
 -- a Fill between its two writes
-ahead : (K : ℕ → Type 0) (s : ℕ) (sh : Shape) (hd : ℕ → Hd) (prim rep : ℕ → ℕ → ℕ) (has : ℕ → ℕ → Bool) (Mt : ℕ → ℕ → Type 0) (on : Bool) (t : ℕ) (e : Task) (w : Operand)
+ahead : (K : ℕ → Type 0) (s : ℕ) (sh : Shape) (hd : ℕ → Hd) (prim rep : ℕ → ℕ → ℕ) (has : ℕ → ℕ → Bool) (Mt : ℕ → ℕ → Type 0) (on : Bool) (t : ℕ) (e : Task) (w : Operand Primary)
     → on ≡ true → hd 0 ≡ count 0 → HalfFilled sh prim e (operand_word w) (is_pointer w) → SoundOperand K sh w
     → PlaceOk K s sh hd prim rep has Mt on t e (look_ahead w ToFillCopy FillCopy)
 ahead K s sh hd prim rep has Mt on t e (Plain u) z n h so = (z, h, tt)
 ahead K s sh hd prim rep has Mt on t e (Pointer q) z n h so = by (eqb q.0 0) refl
   where
-    by : (c : Bool) → eqb q.0 0 ≡ c → PlaceOk K s sh hd prim rep has Mt on t e (pick c (FillCopy (Renamed (replica 0))) (Looking q ToFillCopy))
+    by : (c : Bool) → eqb q.0 0 ≡ c → PlaceOk K s sh hd prim rep has Mt on t e (pick c (FillCopy (Pointer (replica 0))) (Looking q ToFillCopy))
     by true d = let a : q.0 ≡ 0 = eqb-true q.0 0 d in (z, rw a at h, (rw a at so, rw n tt))
     by false d = (z, pos q.0 (eqb-false q.0 0 d), so, h)
 
-ahead_quiet : (w : Operand) → LateAt (look_ahead w ToFillCopy FillCopy) → ⊥
+ahead_quiet : (w : Operand Primary) → LateAt (look_ahead w ToFillCopy FillCopy) → ⊥
 ahead_quiet (Plain u) = λ z. z
 ahead_quiet (Pointer q) = by (eqb q.0 0)
   where
-    by : (c : Bool) → LateAt (pick c (FillCopy (Renamed (replica 0))) (Looking q ToFillCopy)) → ⊥
+    by : (c : Bool) → LateAt (pick c (FillCopy (Pointer (replica 0))) (Looking q ToFillCopy)) → ⊥
     by true z = z
     by false z = z
 
-full : (K : ℕ → Type 0) (sh : Shape) (d : Storing) → StoringOk K sh d → (a j : ℕ) → On d a j → (sh.fill a ≡ sh.len a) × (j < sh.len a)
-full K sh Nowhere h a j z = absurd z
-full K sh (Slot y k) h a j z = rw (← z.0, ← z.1) (h.1.2, h.2)
+full : (K : ℕ → Type 0) (sh : Shape) (d : Option Slot) → StoringOk K sh d → (a j : ℕ) → On d a j → (sh.fill a ≡ sh.len a) × (j < sh.len a)
+full K sh None h a j z = absurd z
+full K sh (Some y) h a j z = rw (← z.0, ← z.1) (h.1.2, h.2)
 
-module _ {K : ℕ → Type 0} {p s : ℕ} {o : State} (v : Inv K p s o) (t : ℕ) (l : t < p) (x : Primary) (r len f : ℕ) (me : (o.tasks t).pending ≡ Making x r len f) where
-  made : PendingOk K o.shape o.hd o.on (Making x r len f)
+module _ {K : ℕ → Type 0} {p s : ℕ} {o : State} (v : Inv K p s o) (t : ℕ) (l : t < p) (x : Primary) (r len f : ℕ) (me : (o.tasks t).pending ≡ pending_with x r len f) where
+  made : PendingOk K o.shape o.hd o.on (pending_with x r len f)
   made = rw me at (v.entries t).pending
 
   -- no other task's pending object is x
@@ -79,14 +77,14 @@ module _ {K : ℕ → Type 0} {p s : ℕ} {o : State} (v : Inv K p s o) (t : ℕ
       omega (arith, c.older x.0)
 
   -- what is written into its next slot, if that is a pointer slot
-  next_sound : (w : Operand) → is_pointer w ≡ ltb (o.shape.fill x.0) (o.shape.ptr x.0) → SoundOperand K o.shape w
+  next_sound : (w : Operand Primary) → is_pointer w ≡ ltb (o.shape.fill x.0) (o.shape.ptr x.0) → SoundOperand K o.shape w
       → o.shape.fill x.0 < o.shape.ptr x.0
       → Sound K o.shape (slot o.prim x.0 (o.shape.fill x.0) (operand_word w) x.0 (o.shape.fill x.0))
   next_sound w q so m =
       rw (slot_same o.prim x.0 (o.shape.fill x.0) (operand_word w)) (pointer_sound K o.shape w (o.shape.fill x.0) _ q so m)
 
   -- the first write
-  pub fill_writes : o.on ≡ true → (w : Operand) → (o.tasks t).place ≡ FillWrite w
+  pub fill_writes : o.on ≡ true → (w : Operand Primary) → (o.tasks t).place ≡ FillWrite w
       → Inv K p s (half_fills o x.0 (operand_word w) t (goes (o.tasks t) (look_ahead w ToFillCopy FillCopy)))
   unfolding holding_of
   fill_writes on w pe =
@@ -127,8 +125,8 @@ module _ {K : ℕ → Type 0} {p s : ℕ} {o : State} (v : Inv K p s o) (t : ℕ
       prim' : ℕ → ℕ → ℕ
       prim' = slot o.prim x.0 i (operand_word w)
 
-      place : ((o.tasks t).storing ≡ Nowhere)
-          × OfPending (Making x r len f) (λ x. (o.shape.fill x < o.shape.len x) × (is_pointer w ≡ ltb (o.shape.fill x) (o.shape.ptr x))) × SoundOperand K o.shape w
+      place : ((o.tasks t).storing ≡ None)
+          × OfPending (pending_with x r len f) (λ x. (o.shape.fill x < o.shape.len x) × (is_pointer w ≡ ltb (o.shape.fill x) (o.shape.ptr x))) × SoundOperand K o.shape w
       place = rw (pe, me) at (v.places t)
 
       value : i < o.shape.ptr x.0 → Sound K o.shape (prim' x.0 i)
@@ -149,8 +147,8 @@ module _ {K : ℕ → Type 0} {p s : ℕ} {o : State} (v : Inv K p s o) (t : ℕ
       })
 
   -- the second write: the slot counts
-  pub fill_copies : (c : Copied) → (o.tasks t).place ≡ FillCopy c → (k : ℕ) → 0 < k
-      → Inv K p s (fills_copy o x.0 (copied_word c) t (goes_with (o.tasks t) (Making x r len (f + 1)) (Take k)))
+  pub fill_copies : (c : Operand Replica) → (o.tasks t).place ≡ FillCopy c → (k : ℕ) → 0 < k
+      → Inv K p s (fills_copy o x.0 (copied_word c) t (goes_with (o.tasks t) (pending_with x r len (f + 1)) (Take k)))
   unfolding holding_of
   fill_copies c pe k kp =
       join t e v
@@ -184,7 +182,7 @@ module _ {K : ℕ → Type 0} {p s : ℕ} {o : State} (v : Inv K p s o) (t : ℕ
       })
     where
       e : Task
-      e = goes_with (o.tasks t) (Making x r len (f + 1)) (Take k)
+      e = goes_with (o.tasks t) (pending_with x r len (f + 1)) (Take k)
 
       i : ℕ
       i = o.shape.fill x.0
@@ -224,8 +222,8 @@ module _ {K : ℕ → Type 0} {p s : ℕ} {o : State} (v : Inv K p s o) (t : ℕ
       }) (slot_same o.has x.0 i true) same
 
   -- the collector off: the one write, and the Fill ends
-  pub fill_off : o.on ≡ false → (w : Operand) → (o.tasks t).place ≡ FillWrite w
-      → Inv K p s (fills_off o x.0 (operand_word w) t (ended_entry (o.tasks t).regs (Making x r len (f + 1))))
+  pub fill_off : o.on ≡ false → (w : Operand Primary) → (o.tasks t).place ≡ FillWrite w
+      → Inv K p s (fills_off o x.0 (operand_word w) t (ended_entry (o.tasks t).regs (pending_with x r len (f + 1))))
   unfolding holding_of
   fill_off off w pe =
       join t e v
@@ -257,7 +255,7 @@ module _ {K : ℕ → Type 0} {p s : ℕ} {o : State} (v : Inv K p s o) (t : ℕ
       })
     where
       e : Task
-      e = ended_entry (o.tasks t).regs (Making x r len (f + 1))
+      e = ended_entry (o.tasks t).regs (pending_with x r len (f + 1))
 
       i : ℕ
       i = o.shape.fill x.0
@@ -265,8 +263,8 @@ module _ {K : ℕ → Type 0} {p s : ℕ} {o : State} (v : Inv K p s o) (t : ℕ
       sh' : Shape
       sh' = filled_one (wrote_one o.shape x.0) x.0
 
-      place : ((o.tasks t).storing ≡ Nowhere)
-          × OfPending (Making x r len f) (λ x. (o.shape.fill x < o.shape.len x) × (is_pointer w ≡ ltb (o.shape.fill x) (o.shape.ptr x))) × SoundOperand K o.shape w
+      place : ((o.tasks t).storing ≡ None)
+          × OfPending (pending_with x r len f) (λ x. (o.shape.fill x < o.shape.len x) × (is_pointer w ≡ ltb (o.shape.fill x) (o.shape.ptr x))) × SoundOperand K o.shape w
       place = rw (pe, me) at (v.places t)
 
       value : i < o.shape.ptr x.0 → Sound K o.shape (slot o.prim x.0 i (operand_word w) x.0 i)
@@ -279,7 +277,7 @@ module _ {K : ℕ → Type 0} {p s : ℕ} {o : State} (v : Inv K p s o) (t : ℕ
       white_all = rw off at v.mode
 
       unlocked : (u : ℕ) → o.hd x.0 ≡ locked i u → ⊥
-      unlocked u z = let d : o.hd x.0 ≡ white = white_all.all x.0 made.0 in let n : ◌≡◌ {A = ℕ} 0 1 = cc in clash n
+      unlocked u z = let d : o.hd x.0 ≡ white = white_all.all x.0 made.0 in clash cc
 
       next_filled : f + 1 ≡ sh'.fill x.0
       next_filled = rw (upd_same o.shape.fill x.0 (suc i)) (omega (arith, made.4))

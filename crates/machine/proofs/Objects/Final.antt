@@ -3,19 +3,16 @@ use Rattle.std.specs.Prelude.{ℕ, zero, suc, ◌≤◌, ◌<◌, ◌≡◌, ref
 use Rattle.std.proofs.Common.{inl, inr, arith}
 use Rattle.std.proofs.Math.Decide.{dec_lt}
 use Rattle.table.specs.declared.Holding.{Holding}
-use Rattle.table.specs.declared.Holding.TheVariants.{Rests, Asks, Free, Job, Claim, Both}
+use Rattle.table.specs.declared.Holding.TheVariants.{Job, Both}
 use Rattle.machine.specs.Tasks.{holding_of}
 use Rattle.machine.proofs.Objects.State.{Hd, white, claimed, count, locked, State, IsSeen, left, JobIn, HasClaim, jobs_in, Late}
 use Rattle.machine.proofs.Objects.Inv.{Reach, from, edge, Colours, Inv}
 
 -- a job counts
 pub job_counts : (h : Holding) (x i : ℕ) → JobIn h x i → jobs_in h ≡ 1
-job_counts Rests x i j = absurd j
-job_counts Asks x i j = absurd j
-job_counts Free x i j = absurd j
-job_counts (Job y k) x i j = refl
-job_counts (Claim p) x i j = absurd j
-job_counts (Both p y k) x i j = refl
+job_counts (Job job) x i j = refl
+job_counts (Both p job) x i j = refl
+job_counts _ x i j = absurd j
 
 -- what the snapshot leads to was seen: by induction on the way there, since no slot on it is still to be copied
 pub final : {K : ℕ → Type 0} {p s : ℕ} {o : State} → Inv K p s o → o.on ≡ true → o.stack ≡ [] → ((t : ℕ) → t < p → jobs_in (holding_of (o.tasks t).place) ≡ 0)

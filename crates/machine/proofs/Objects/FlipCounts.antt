@@ -1,24 +1,23 @@
 -- Words, copies and payments just after the flip: every word is of a replica, nothing is copied and nothing is owed for what was made since.
-use Prim.Native.Nat.{ℕ, zero, suc, ◌+◌, ◌≤◌, ◌<◌}
-use Rattle.std.specs.Prelude.{◌≡◌, List, [], ◌∷◌, false, length, eqb}
+use Prim.Native.Nat.{ℕ, suc, ◌+◌, ◌≤◌, ◌<◌}
+use Rattle.std.specs.Prelude.{◌≡◌, List, [], false, length, eqb, Option, Some, None}
 use Rattle.std.proofs.Math.Path.{refl, ap}
-use Rattle.std.proofs.Common.{◌∙◌, inl, inr, arith, le-ltb, le-leb}
-use Rattle.std.proofs.Math.Decide.{ℕ_discrete}
+use Rattle.std.proofs.Common.{◌∙◌, arith, le-ltb, le-leb}
 use Rattle.std.proofs.Math.Nat.{mul-le-mul_left}
-use Rattle.table.specs.declared.Pending.{Pending}
-use Rattle.table.specs.declared.Pending.TheVariants.{Nothing, Making}
+use Rattle.table.specs.declared.Making.{Making}
 use Rattle.table.specs.declared.Place.{Place}
-use Rattle.table.specs.declared.Place.TheVariants.{Idle, New, Asked, FillWrite, FillCopy, StoreWrite, Meet, StoreCopy, Take, Read, Put, Release, Looking, Placing}
+use Rattle.table.specs.declared.Place.TheVariants.{Idle, New, Asked}
 use Rattle.machine.specs.Basics.{pick}
 use Rattle.machine.specs.Flip.{unasked, unasked_entry}
 use Rattle.machine.specs.Objects.Base.{In}
-use Rattle.machine.proofs.Objects.Base.{sum_to, sum_to_ext}
-use Rattle.machine.proofs.Objects.State.{Hd, white, claimed, count, locked, Shape, State, IsSeen, IsPlaced, left}
+use Rattle.machine.proofs.Objects.Base.{sum_to, sum_to_ext, sum_none, in?}
+use Rattle.machine.proofs.Objects.State.{Hd, Shape, State, IsSeen, IsPlaced, left}
 use Rattle.machine.proofs.Objects.Inv.{from, PendingOk, Off, Inv}
 use Rattle.machine.proofs.Objects.Ops.{found_in}
 use Rattle.machine.proofs.Objects.Flipped.{Restful}
 use Rattle.machine.proofs.Objects.FlipInv.{Mid, readied}
 use Rattle.machine.proofs.Objects.Counts.{is_placed, claims, new_words, is_grey, left_to_pay, unfilled, Counts}
+use Rattle.machine.proofs.Objects.HeadLaws.{placed_seen}
 
 -- ---- sums over the headers
 -- the words of x's replica, if it has one
@@ -32,40 +31,13 @@ twinned sh hd = sum_to (suc sh.n) (λ x. pick (eqb x 0) 0 (pick (is_placed (hd x
 abbrev pub grey_ones : Shape → (ℕ → Hd) → ℕ
 grey_ones sh hd = sum_to (suc sh.n) (λ x. is_grey (hd x))
 
-sum_zero : (n : ℕ) → sum_to n (λ x. 0) ≡ 0
-unfolding sum_to
-sum_zero zero = refl
-sum_zero (suc n) = omega (arith, sum_zero n)
-
-pub sum_none : (n : ℕ) (f : ℕ → ℕ) → ((x : ℕ) → x < n → f x ≡ 0) → sum_to n f ≡ 0
-sum_none n f h = sum_to_ext n f (λ x. 0) h ∙ sum_zero n
-
-pub in? : (x : ℕ) (l : List ℕ) → Dec (In x l)
-in? x [] = no (λ i. i)
-in? x (y ∷ l) = go (ℕ_discrete x y) (in? x l)
-  where
-    go : Dec (x ≡ y) → Dec (In x l) → Dec (In x (y ∷ l))
-    go (yes e) d = yes (inl e)
-    go (no f) (yes i) = yes (inr i)
-    go (no f) (no g) = no (elim [ inl e ↦ f e | inr i ↦ g i ])
-
 -- at rest there is no payment in hand
 no_payment : (pl : Place) → Restful pl → left_to_pay (unasked pl) ≡ 0
 unfolding unasked
 no_payment Idle r = refl
-no_payment (New a len m) r = refl
-no_payment (Asked a len m) r = refl
-no_payment (FillWrite v) r = absurd r
-no_payment (FillCopy c) r = absurd r
-no_payment (StoreWrite v) r = absurd r
-no_payment (Meet v) r = absurd r
-no_payment (StoreCopy c) r = absurd r
-no_payment (Take n) r = absurd r
-no_payment (Read n x i) r = absurd r
-no_payment (Put n x i c) r = absurd r
-no_payment (Release n x i) r = absurd r
-no_payment (Looking q th) r = absurd r
-no_payment (Placing q th) r = absurd r
+no_payment (New want) r = refl
+no_payment (Asked want) r = refl
+no_payment _ r = absurd r
 
 module _ {K : ℕ → Type 0} {p s : ℕ} {o : State} {vs : List ℕ} {o₁ : State} (v : Inv K p s o) (off : o.on ≡ false) (rest : (t : ℕ) → Restful (o.tasks t).place)
     (m : Mid o vs o₁) where
@@ -86,19 +58,13 @@ module _ {K : ℕ → Type 0} {p s : ℕ} {o : State} {vs : List ℕ} {o₁ : St
       go (yes i) = i
       go (no n) = absurd (rw (hd_old x b ∙ m.same x n ∙ off_all.all x a) at q)
 
-  placed_seen : (h : Hd) → IsPlaced h → IsSeen h
-  placed_seen white q = absurd q
-  placed_seen (claimed t) q = absurd q
-  placed_seen (count c) q = tt
-  placed_seen (locked i t) q = tt
-
   all_left : (x : ℕ) → 0 < x → x ≤ sh.n → IsPlaced ((readied o₁).hd x) → left (sh.len x) ((readied o₁).hd x) ≡ sh.fill x
   all_left x a b q = ap (left (sh.len x)) (hd_old x b ∙ m.hd₁ x (seen_in x a b (placed_seen ((readied o₁).hd x) q)) a)
 
   -- what is to be filled of a pending object is at most its length
-  to_fill : (q : Pending) → PendingOk K sh o.hd o.on q → unfilled q ≤ s
-  to_fill Nothing w = omega arith
-  to_fill (Making x r len f) w = omega (arith, w.3, v.shapes.high x.0 w.2)
+  to_fill : (q : Option Making) → PendingOk K sh o.hd o.on q → unfilled q ≤ s
+  to_fill None w = omega arith
+  to_fill (Some d) w = omega (arith, w.3, v.shapes.high d.at.0 w.2)
 
   pub flip_counts : {base a : ℕ} (k : ℕ) → a ≡ base + twinned o.shape o₁.hd → length o₁.stack ≡ grey_ones o.shape o₁.hd
       → Counts k p s o.shape (found_in o vs) (readied o₁).hd o₁.stack (λ t. unasked_entry (o.tasks t)) base a 0 0 [] (λ t. 0)

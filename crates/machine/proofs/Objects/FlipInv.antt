@@ -15,6 +15,7 @@ use Rattle.machine.proofs.Objects.State.{root, pending_is, Hd, count, State}
 use Rattle.machine.proofs.Objects.Flipped.{Restful, Comes, Left, Twinned, flipped_inv}
 use Rattle.machine.proofs.Objects.Inv.{Off, Inv}
 use Rattle.machine.proofs.Objects.Ops.{state, push, twins, found_in, flips}
+use Rattle.machine.proofs.Objects.HeadLaws.{push_nodup}
 
 -- o₁ is o, in which of the objects of vs each but nil was given a replica with all its filled slots to copy
 pub record Mid (o : State) (vs : List ℕ) (o₁ : State) : Type 0 where
@@ -80,13 +81,6 @@ mid_skip {o} {o₁} {vs} x k i = record {
     old y (inr j) = j
 
 -- ---- a push, by the test on the slots to copy
-nodup_push : (c x : ℕ) (st : List ℕ) → (In x st → ⊥) → Nodup st → Nodup (push c x st)
-nodup_push c x st f d = go (eqb c 0)
-  where
-    go : (b : Bool) → Nodup (pick b st (x ∷ st))
-    go true = d
-    go false = (f, d)
-
 push_out : (c x : ℕ) (st : List ℕ) (y : ℕ) → In y (push c x st) → In y st ⊎ ((y ≡ x) × (0 < c))
 push_out c x st y = go (eqb c 0) refl
   where
@@ -123,7 +117,7 @@ mid_twin {o} {o₁} {vs} x k p n = record {
   nil = rw (upd_other o₁.hd x (count (o.shape.fill x)) 0 (λ e. omega arith)) k.nil;
   stacked = λ y i. from y (push_out (o.shape.fill x) x o₁.stack y i);
   grey = λ y i a b. push_into (o.shape.fill x) x o₁.stack y (into y i a b);
-  once = nodup_push (o.shape.fill x) x o₁.stack (λ i. n (k.stacked x i).0) k.once;
+  once = push_nodup (o.shape.fill x) x o₁.stack (λ i. n (k.stacked x i).0) k.once;
   blank = λ y j.
       upd_all (λ y (h : ℕ → Bool). In y (x ∷ vs) → 0 < y → h j ≡ false) o₁.has x (λ j. false) (λ i q. refl)
       (λ y f i. k.blank y j (old y f i)) y;

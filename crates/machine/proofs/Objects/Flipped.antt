@@ -1,19 +1,17 @@
 -- The invariant just after the flip, when every root has its replica and nothing is copied yet.
-use Rattle.std.specs.Prelude.{ℕ, suc, ◌-◌, ◌≤◌, ◌<◌, ◌⊎◌, List, [], ◌∷◌, Bool, false}
+use Rattle.std.specs.Prelude.{ℕ, suc, ◌-◌, ◌≤◌, ◌<◌, ◌⊎◌, List, Bool, false, Option, Some, None}
 use Rattle.std.proofs.Math.Path.{◌≡◌, refl}
 use Rattle.std.proofs.Common.{ap, sym, ◌∙◌, inl, arith}
 use Rattle.std.proofs.Math.Logic.{inr}
 use Rattle.std.proofs.Math.Bool.{true}
 use Rattle.std.proofs.Math.Decide.{ℕ_discrete, dec_lt}
-use Rattle.table.specs.declared.Pending.{Pending}
-use Rattle.table.specs.declared.Pending.TheVariants.{Nothing, Making}
-use Rattle.table.specs.declared.Storing.TheVariants.{Nowhere}
+use Rattle.table.specs.declared.Making.{Making}
 use Rattle.table.specs.declared.Place.{Place}
 use Rattle.table.specs.declared.Place.TheVariants.{Idle, New, Asked, FillWrite, FillCopy, StoreWrite, Meet, StoreCopy, Take, Read, Put, Release, Looking, Placing}
 use Rattle.table.specs.declared.Task.{Task}
 use Rattle.machine.specs.Flip.{unasked, unasked_entry}
 use Rattle.machine.specs.Objects.Base.{In}
-use Rattle.machine.proofs.Objects.Base.{clash, off_on, Nodup}
+use Rattle.machine.proofs.Objects.Base.{clash, off_on, Nodup, in?}
 use Rattle.machine.proofs.Objects.State.{Hd, white, claimed, count, locked, Shape, State, IsSeen, IsPlaced, IsUnplaced, left, root, pending_is, Late, Meeting}
 use Rattle.machine.proofs.Objects.Inv.{Sound, Shapes, Reach, from, edge, Colours, PendingOk, EntryOk, PlaceOk, Owners, Inv}
 use Rattle.machine.proofs.Objects.Ops.{state, found_in}
@@ -21,17 +19,17 @@ use Rattle.machine.proofs.Objects.Ops.{state, found_in}
 -- idle, or at a New
 abbrev pub Restful : Place → Type 0
 Restful Idle = Unit {0}
-Restful (New r len m) = Unit {0}
-Restful (Asked r len m) = Unit {0}
+Restful (New want) = Unit {0}
+Restful (Asked want) = Unit {0}
 Restful (FillWrite v) = ⊥
 Restful (FillCopy c) = ⊥
 Restful (StoreWrite v) = ⊥
 Restful (Meet v) = ⊥
 Restful (StoreCopy c) = ⊥
 Restful (Take n) = ⊥
-Restful (Read n x i) = ⊥
-Restful (Put n x i c) = ⊥
-Restful (Release n x i) = ⊥
+Restful (Read n job) = ⊥
+Restful (Put n job c) = ⊥
+Restful (Release n job) = ⊥
 Restful (Looking q th) = ⊥
 Restful (Placing q th) = ⊥
 
@@ -57,51 +55,22 @@ pub record Twinned (sh : Shape) (vs : List ℕ) (hd : ℕ → Hd) (has : ℕ →
   pub grey : (x : ℕ) → In x vs → 0 < x → 0 < sh.fill x → In x stack
   pub once : Nodup stack
 
-in? : (x : ℕ) (l : List ℕ) → Dec (In x l)
-in? x [] = no (λ i. i)
-in? x (y ∷ l) = go (ℕ_discrete x y) (in? x l)
-  where
-    go : Dec (x ≡ y) → Dec (In x l) → Dec (In x (y ∷ l))
-    go (yes e) d = yes (inl e)
-    go (no f) (yes i) = yes (inr i)
-    go (no f) (no g) = no (elim [ inl e ↦ f e | inr i ↦ g i ])
-
 -- at rest no Store is unfinished
 rest_nowhere : (K : ℕ → Type 0) (s : ℕ) (sh : Shape) (hd : ℕ → Hd) (prim rep : ℕ → ℕ → ℕ) (has : ℕ → ℕ → Bool) (Mt : ℕ → ℕ → Type 0) (on : Bool) (t : ℕ) (e : Task)
-    (pl : Place) → Restful pl → PlaceOk K s sh hd prim rep has Mt on t e pl → e.storing ≡ Nowhere
+    (pl : Place) → Restful pl → PlaceOk K s sh hd prim rep has Mt on t e pl → e.storing ≡ None
 rest_nowhere K s sh hd prim rep has Mt on t e Idle r q = q.1
-rest_nowhere K s sh hd prim rep has Mt on t e (New a len m) r q = q.1
-rest_nowhere K s sh hd prim rep has Mt on t e (Asked a len m) r q = q.1.1
-rest_nowhere K s sh hd prim rep has Mt on t e (FillWrite v) r q = absurd r
-rest_nowhere K s sh hd prim rep has Mt on t e (FillCopy c) r q = absurd r
-rest_nowhere K s sh hd prim rep has Mt on t e (StoreWrite v) r q = absurd r
-rest_nowhere K s sh hd prim rep has Mt on t e (Meet v) r q = absurd r
-rest_nowhere K s sh hd prim rep has Mt on t e (StoreCopy c) r q = absurd r
-rest_nowhere K s sh hd prim rep has Mt on t e (Take n) r q = absurd r
-rest_nowhere K s sh hd prim rep has Mt on t e (Read n x i) r q = absurd r
-rest_nowhere K s sh hd prim rep has Mt on t e (Put n x i c) r q = absurd r
-rest_nowhere K s sh hd prim rep has Mt on t e (Release n x i) r q = absurd r
-rest_nowhere K s sh hd prim rep has Mt on t e (Looking a th) r q = absurd r
-rest_nowhere K s sh hd prim rep has Mt on t e (Placing a th) r q = absurd r
+rest_nowhere K s sh hd prim rep has Mt on t e (New want) r q = q.1
+rest_nowhere K s sh hd prim rep has Mt on t e (Asked want) r q = q.1.1
+rest_nowhere K s sh hd prim rep has Mt on t e _ r q = absurd r
 
 -- what a place at rest stands on, the flip leaves
 rest_ok : (K K' : ℕ → Type 0) (s : ℕ) (sh : Shape) (hd hd' : ℕ → Hd) (prim rep : ℕ → ℕ → ℕ) (has has' : ℕ → ℕ → Bool) (Mt Mt' : ℕ → ℕ → Type 0) (on : Bool) (t : ℕ)
     (e : Task) (pl : Place) → Restful pl → PlaceOk K s sh hd prim rep has Mt on t e pl → PlaceOk K' s sh hd' prim rep has' Mt' true t (unasked_entry e) (unasked pl)
 unfolding unasked unasked_entry
 rest_ok K K' s sh hd hd' prim rep has has' Mt Mt' on t e Idle r q = q
-rest_ok K K' s sh hd hd' prim rep has has' Mt Mt' on t e (New a len m) r q = q
-rest_ok K K' s sh hd hd' prim rep has has' Mt Mt' on t e (Asked a len m) r q = q.1
-rest_ok K K' s sh hd hd' prim rep has has' Mt Mt' on t e (FillWrite v) r q = absurd r
-rest_ok K K' s sh hd hd' prim rep has has' Mt Mt' on t e (FillCopy c) r q = absurd r
-rest_ok K K' s sh hd hd' prim rep has has' Mt Mt' on t e (StoreWrite v) r q = absurd r
-rest_ok K K' s sh hd hd' prim rep has has' Mt Mt' on t e (Meet v) r q = absurd r
-rest_ok K K' s sh hd hd' prim rep has has' Mt Mt' on t e (StoreCopy c) r q = absurd r
-rest_ok K K' s sh hd hd' prim rep has has' Mt Mt' on t e (Take n) r q = absurd r
-rest_ok K K' s sh hd hd' prim rep has has' Mt Mt' on t e (Read n x i) r q = absurd r
-rest_ok K K' s sh hd hd' prim rep has has' Mt Mt' on t e (Put n x i c) r q = absurd r
-rest_ok K K' s sh hd hd' prim rep has has' Mt Mt' on t e (Release n x i) r q = absurd r
-rest_ok K K' s sh hd hd' prim rep has has' Mt Mt' on t e (Looking a th) r q = absurd r
-rest_ok K K' s sh hd hd' prim rep has has' Mt Mt' on t e (Placing a th) r q = absurd r
+rest_ok K K' s sh hd hd' prim rep has has' Mt Mt' on t e (New want) r q = q
+rest_ok K K' s sh hd hd' prim rep has has' Mt Mt' on t e (Asked want) r q = q.1
+rest_ok K K' s sh hd hd' prim rep has has' Mt Mt' on t e _ r q = absurd r
 
 module _ (K : ℕ → Type 0) (p s : ℕ) (o : State) (v : Inv K p s o) (rest : (t : ℕ) → Restful (o.tasks t).place) (vs : List ℕ)
     (only : (x : ℕ) → In x vs → Comes o x) (all : (x : ℕ) → Comes o x → In x vs) (hd' : ℕ → Hd) (has' : ℕ → ℕ → Bool) (stack : List ℕ)
@@ -119,9 +88,9 @@ module _ (K : ℕ → Type 0) (p s : ℕ) (o : State) (v : Inv K p s o) (rest : 
   pending_kept : (e : Task) → PendingOk K sh o.hd o.on e.pending → K (pending_is e.pending) × (pending_is e.pending ≤ sh.n)
   pending_kept e = go e.pending
     where
-      go : (q : Pending) → PendingOk K sh o.hd o.on q → K (pending_is q) × (pending_is q ≤ sh.n)
-      go Nothing w = (v.shapes.kept, omega arith)
-      go (Making x r len f) w = (w.1, w.2)
+      go : (q : Option Making) → PendingOk K sh o.hd o.on q → K (pending_is q) × (pending_is q ≤ sh.n)
+      go None w = (v.shapes.kept, omega arith)
+      go (Some d) w = (w.1, w.2)
 
   -- the roots are kept and made
   came : (x : ℕ) → Comes o x → K x × (x ≤ sh.n)
@@ -163,7 +132,7 @@ module _ (K : ℕ → Type 0) (p s : ℕ) (o : State) (v : Inv K p s o) (rest : 
   sound : (x : ℕ) → Comes o x → Sound K sh x → Sound K' sh x
   sound x c m = (keeps x c, m.1, m.2)
 
-  nowhere : (t : ℕ) → (o.tasks t).storing ≡ Nowhere
+  nowhere : (t : ℕ) → (o.tasks t).storing ≡ None
   nowhere t = rest_nowhere K s sh o.hd o.prim o.rep o.has (Meeting o.tasks) o.on t (o.tasks t) (o.tasks t).place (rest t) (v.places t)
 
   not_late : (x j : ℕ) → Late ts' x j → ⊥
@@ -189,8 +158,8 @@ module _ (K : ℕ → Type 0) (p s : ℕ) (o : State) (v : Inv K p s o) (rest : 
     stacked = stacked;
     once = k.once;
     grey = λ x c. by (λ x h. h ≡ count (suc c) → In x (stack))
-        (λ x i a b e. let z : sh.fill x ≡ suc c = cc in k.grey x i a (omega arith)) (λ x i a b e. let z : ◌≡◌ {A = ℕ} 0 1 = cc in clash z)
-        (λ e. let z : ◌≡◌ {A = ℕ} 0 (suc c) = cc in absurd (omega arith)) (λ x l e. let z : ◌≡◌ {A = ℕ} 0 (suc c) = cc in absurd (omega arith)) x;
+        (λ x i a b e. let z : sh.fill x ≡ suc c = cc in k.grey x i a (omega arith)) (λ x i a b e. clash cc)
+        (λ e. clash cc) (λ x l e. clash cc) x;
     bound = by (λ x h. IsPlaced h → left (sh.len x) h ≤ sh.fill x) (λ x i a b q. omega arith) (λ x i a b q. absurd q) (λ q. omega arith) (λ x l q. omega arith);
     unplaced = λ x q l. by (λ x h. K' x → x ≤ sh.n → IsUnplaced h → sh.fill x ≡ sh.len x) (λ x i a b q l u. absurd u)
         (λ x f a b q l u. reach_full (q.1 l) f) (λ q l u. absurd u) (λ x l q r u. absurd u) x q l;
@@ -237,18 +206,18 @@ module _ (K : ℕ → Type 0) (p s : ℕ) (o : State) (v : Inv K p s o) (rest : 
     storing = rw (nowhere t) tt;
   }
     where
-      go : (q : Pending) → PendingOk K sh o.hd o.on q → ((x : ℕ) → pending_is q ≡ x → Comes o x) → PendingOk K' sh hd' true q
-      go Nothing w c = tt
-      go (Making x r len f) w c =
-          let m = c x.0 refl in (w.0, keeps x.0 m, w.2, w.3, w.4, w.5, λ e. rw (k.rooted x.0 (all x.0 m) w.0 w.2) tt)
+      go : (q : Option Making) → PendingOk K sh o.hd o.on q → ((x : ℕ) → pending_is q ≡ x → Comes o x) → PendingOk K' sh hd' true q
+      go None w c = tt
+      go (Some d) w c =
+          let m = c d.at.0 refl in (w.0, keeps d.at.0 m, w.2, w.3, w.4, w.5, λ e. rw (k.rooted d.at.0 (all d.at.0 m) w.0 w.2) tt)
 
   flipped_owners : Owners p sh K' hd' ts'
   unfolding unasked_entry unasked
   flipped_owners = record {
-    locker = λ x i t e. absurd (by (λ x h. h ≡ locked i t → ⊥) (λ x a b c e. let z : ◌≡◌ {A = ℕ} 0 1 = cc in clash z)
-        (λ x a b c e. let z : ◌≡◌ {A = ℕ} 0 1 = cc in clash z) (λ e. let z : ◌≡◌ {A = ℕ} 0 1 = cc in clash z) (λ x a e. let z : ◌≡◌ {A = ℕ} 0 1 = cc in clash z) x e);
-    claimer = λ x t e. absurd (by (λ x h. h ≡ claimed t → ⊥) (λ x a b c e. let z : ◌≡◌ {A = ℕ} 0 1 = cc in clash z)
-        (λ x a b c e. let z : ◌≡◌ {A = ℕ} 0 1 = cc in clash z) (λ e. let z : ◌≡◌ {A = ℕ} 0 1 = cc in clash z) (λ x a e. let z : ◌≡◌ {A = ℕ} 0 1 = cc in clash z) x e);
+    locker = λ x i t e. absurd (by (λ x h. h ≡ locked i t → ⊥) (λ x a b c e. clash cc)
+        (λ x a b c e. clash cc) (λ e. clash cc) (λ x a e. clash cc) x e);
+    claimer = λ x t e. absurd (by (λ x h. h ≡ claimed t → ⊥) (λ x a b c e. clash cc)
+        (λ x a b c e. clash cc) (λ e. clash cc) (λ x a e. clash cc) x e);
     pendings = v.owners.pendings;
     stores = v.owners.stores;
     beyond = λ t l. rw (v.owners.beyond t l) refl;

@@ -1,12 +1,11 @@
 -- One header changes, and the stack with it: what is to be shown of headers and copies (`HeadOk`) and of the task that does it (`HeadTask`).
-use Rattle.std.specs.Prelude.{ℕ, zero, suc, ◌≤◌, ◌<◌, ◌≡◌, refl, ◌≢◌, ◌⊎◌, List, ◌∷◌, Bool, true}
+use Rattle.std.specs.Prelude.{ℕ, zero, suc, ◌≤◌, ◌<◌, ◌≡◌, refl, ◌≢◌, ◌⊎◌, List, ◌∷◌, Bool, true, Option, Some, None}
 use Rattle.std.proofs.Common.{ap, sym, ◌∙◌, inl, inr, arith, ne_eqb}
-use Rattle.table.specs.declared.Pending.{Pending}
-use Rattle.table.specs.declared.Pending.TheVariants.{Nothing, Making}
+use Rattle.table.specs.declared.Making.{Making}
 use Rattle.table.specs.declared.Place.{Place}
 use Rattle.table.specs.declared.Task.{Task}
 use Rattle.machine.specs.Objects.Base.{In}
-use Rattle.machine.proofs.Objects.Base.{upd, upd_other, upd_all, Nodup}
+use Rattle.machine.proofs.Objects.Base.{upd, upd_other, upd_all, Nodup, clash}
 use Rattle.machine.proofs.Objects.State.{Hd, white, claimed, count, locked, Shape, Snapshot, State, IsSeen, IsPlaced, IsUnplaced, left, HasJob, HasClaim, MeetsAt, LateAt, Meeting, Late}
 use Rattle.machine.proofs.Objects.Inv.{Colours, PendingOk, PlaceOk, Inv}
 use Rattle.machine.proofs.Objects.Ops.{state, goes, push}
@@ -17,9 +16,7 @@ use Rattle.machine.proofs.Objects.MoveLaws.{task_inv, same_pendings, same_stores
 -- ---- headers go on
 pub placed_seen : (h : Hd) → IsPlaced h → IsSeen h
 placed_seen white p = p
-placed_seen (claimed t) p = tt
-placed_seen (count c) p = tt
-placed_seen (locked i t) p = tt
+placed_seen _ p = tt
 
 pub head_placed : (hd : ℕ → Hd) (y : ℕ) (h : Hd) → (IsPlaced (hd y) → IsPlaced h) → (x : ℕ) → IsPlaced (hd x) → IsPlaced (upd hd y h x)
 head_placed hd y h f = upd_all (λ x o. IsPlaced (hd x) → IsPlaced o) hd y h f (λ x q p. p)
@@ -48,7 +45,7 @@ push_out zero y st h i = absurd (h i)
 push_out (suc c) y st h i = (c, refl)
 
 pub push_into : (c y : ℕ) (st : List ℕ) (n : ℕ) → count c ≡ count (suc n) → In y (push c y st)
-push_into zero y st n e = let z : ◌≡◌ {A = ℕ} 0 (suc n) = cc in absurd (omega arith)
+push_into zero y st n e = clash cc
 push_into (suc c) y st n e = rw (push_suc c y st) (inl refl)
 
 pub push_nodup : (c y : ℕ) (st : List ℕ) → (In y st → ⊥) → Nodup st → Nodup (push c y st)
@@ -185,10 +182,10 @@ pub record HeadTask (K : ℕ → Type 0) (p s : ℕ) (o : State) (has' : ℕ →
   pub late : LateAt (o.tasks t).place → LateAt pl
   pub later : LateAt pl → LateAt (o.tasks t).place
 
-head_pending : (K : ℕ → Type 0) (sh : Shape) (hd hd' : ℕ → Hd) (on : Bool) (d : Pending) → ((x : ℕ) → IsPlaced (hd x) → IsPlaced (hd' x))
+head_pending : (K : ℕ → Type 0) (sh : Shape) (hd hd' : ℕ → Hd) (on : Bool) (d : Option Making) → ((x : ℕ) → IsPlaced (hd x) → IsPlaced (hd' x))
     → PendingOk K sh hd on d → PendingOk K sh hd' on d
-head_pending K sh hd hd' on Nothing f o = tt
-head_pending K sh hd hd' on (Making x r len n) f o = (o.0, o.1, o.2, o.3, o.4, o.5, λ c. f x.0 (o.6 c))
+head_pending K sh hd hd' on None f o = tt
+head_pending K sh hd hd' on (Some d) f o = (o.0, o.1, o.2, o.3, o.4, o.5, λ c. f d.at.0 (o.6 c))
 
 pub head_inv : {K : ℕ → Type 0} {p s : ℕ} (o : State) {has' : ℕ → ℕ → Bool} {st : List ℕ} {y : ℕ} {h₀ h : Hd} (t : ℕ) (pl : Place) → Inv K p s o
     → HeadTask K p s o has' y h₀ h t pl

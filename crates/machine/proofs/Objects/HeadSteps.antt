@@ -20,6 +20,7 @@ use Rattle.machine.proofs.Objects.Keep.{of_store}
 use Rattle.machine.proofs.Objects.Late.{meeting_after}
 use Rattle.machine.proofs.Objects.MoveLaws.{at_place_lem, or_right, go_inv}
 use Rattle.machine.proofs.Objects.HeadLaws.{placed_seen, in_push, push_in, push_out, push_into, push_nodup, unstacked, HeadOk, head_placed, head_inv}
+use Rattle.machine.proofs.Objects.CountHeads.{placing_claims}
 
 -- ---- what follows a look, before and after
 then_goes : (K : ℕ → Type 0) (sh : Shape) (hd hd' : ℕ → Hd) (prim : ℕ → ℕ → ℕ) (Mt Mt' : ℕ → ℕ → Type 0) (t : ℕ) (e : Task) (pl : Place) (q : ℕ) (th : Then)
@@ -28,7 +29,7 @@ then_goes : (K : ℕ → Type 0) (sh : Shape) (hd hd' : ℕ → Hd) (prim : ℕ 
 then_goes K sh hd hd' prim Mt Mt' t e pl q (ToWrite v) placed lock meets h = h
 then_goes K sh hd hd' prim Mt Mt' t e pl q ToStoreCopy placed lock meets h = of_store e.storing (λ x i a h. (h.0, h.1, placed x h.2)) h
 then_goes K sh hd hd' prim Mt Mt' t e pl q ToFillCopy placed lock meets h = h
-then_goes K sh hd hd' prim Mt Mt' t e pl q (ToPut n x i) placed lock meets h = (h.0, lock x.0 i h.1, h.2, or_right (meets x.0 i) h.3)
+then_goes K sh hd hd' prim Mt Mt' t e pl q (ToPut n job) placed lock meets h = (h.0, lock job.object.0 job.index h.1, h.2, or_right (meets job.object.0 job.index) h.3)
 
 on_place : (K : ℕ → Type 0) (s : ℕ) (sh : Shape) (hd : ℕ → Hd) (prim rep : ℕ → ℕ → ℕ) (has : ℕ → ℕ → Bool) (Mt : ℕ → ℕ → Type 0) (on : Bool) (t : ℕ) (e : Task)
     (q : ℕ) (th : Then) → on ≡ true → Sound K sh q → IsPlaced (hd q) → ThenOk K sh hd prim Mt t e q th
@@ -38,61 +39,40 @@ on_place K s sh hd prim rep has Mt on t e q (ToWrite v) c z p h =
 on_place K s sh hd prim rep has Mt on t e q ToStoreCopy c z p h =
     (c, of_store e.storing (λ x i a h. (sym (lt-ltb i (sh.ptr x) h.0), h.1, h.2)) h, (z, p))
 on_place K s sh hd prim rep has Mt on t e q ToFillCopy c z p h = (c, h, (z, p))
-on_place K s sh hd prim rep has Mt on t e q (ToPut n x i) c z p h = (c, h.0, h.1, sym (lt-ltb i (sh.ptr x.0) h.2), h.3, (z, p))
+on_place K s sh hd prim rep has Mt on t e q (ToPut n job) c z p h = (c, h.0, h.1, sym (lt-ltb job.index (sh.ptr job.object.0) h.2), h.3, (z, p))
 
 late_on : (th : Then) (r : Replica) → LateThen th → LateAt (go_on th r)
-late_on (ToWrite v) r l = l
 late_on ToStoreCopy r l = tt
-late_on ToFillCopy r l = l
-late_on (ToPut n x i) r l = l
+late_on _ r l = l
 
 on_late : (th : Then) (r : Replica) → LateAt (go_on th r) → LateThen th
-on_late (ToWrite v) r l = l
 on_late ToStoreCopy r l = tt
-on_late ToFillCopy r l = l
-on_late (ToPut n x i) r l = l
+on_late _ r l = l
 
 look_job : (q : Primary) (th : Then) (r : Replica) (x i : ℕ) → JobIn (holding_of (Looking q th)) x i → JobIn (holding_of (go_on th r)) x i
 unfolding holding_of
 look_job q (ToWrite v) r x i h = h
-look_job q ToStoreCopy r x i h = h
-look_job q ToFillCopy r x i h = h
-look_job q (ToPut n y j) r x i h = h
+look_job q _ r x i h = h
 
 look_claim : (q : Primary) (th : Then) (x : ℕ) → ClaimIn (holding_of (Looking q th)) x → ⊥
 unfolding holding_of
 look_claim q (ToWrite v) x h = h
-look_claim q ToStoreCopy x h = h
-look_claim q ToFillCopy x h = h
-look_claim q (ToPut n y j) x h = h
+look_claim q _ x h = h
 
 place_job : (q : Primary) (th : Then) (x i : ℕ) → JobIn (holding_of (Placing q th)) x i → JobIn (holding_of (Looking q th)) x i
 unfolding holding_of
 place_job q (ToWrite v) x i h = h
-place_job q ToStoreCopy x i h = h
-place_job q ToFillCopy x i h = h
-place_job q (ToPut n y j) x i h = h
+place_job q _ x i h = h
 
 job_place : (q : Primary) (th : Then) (x i : ℕ) → JobIn (holding_of (Looking q th)) x i → JobIn (holding_of (Placing q th)) x i
 unfolding holding_of
 job_place q (ToWrite v) x i h = h
-job_place q ToStoreCopy x i h = h
-job_place q ToFillCopy x i h = h
-job_place q (ToPut n y j) x i h = h
+job_place q _ x i h = h
 
 place_claim : (q : Primary) (th : Then) (x : ℕ) → ClaimIn (holding_of (Placing q th)) x → x ≡ q.0
 unfolding holding_of
 place_claim q (ToWrite v) x h = sym h
-place_claim q ToStoreCopy x h = sym h
-place_claim q ToFillCopy x h = sym h
-place_claim q (ToPut n y j) x h = sym h
-
-claim_place : (q : Primary) (th : Then) → ClaimIn (holding_of (Placing q th)) q.0
-unfolding holding_of
-claim_place q (ToWrite v) = refl
-claim_place q ToStoreCopy = refl
-claim_place q ToFillCopy = refl
-claim_place q (ToPut n y j) = refl
+place_claim q _ x h = sym h
 
 -- ---- the steps
 -- white to claimed
@@ -105,11 +85,11 @@ claim_ok {hd = hd} {stack = stack} y t c m e = record {
   once = c.once;
   out = λ x i q. i;
   into = λ x i q. i;
-  out_y = λ i. absurd (unstacked y c (λ n w. let z : ◌≡◌ {A = ℕ} 0 1 = cc in clash z) i);
-  into_y = λ n w. let z : ◌≡◌ {A = ℕ} 0 1 = cc in clash z;
+  out_y = λ i. absurd (unstacked y c (λ n w. clash cc) i);
+  into_y = λ n w. clash cc;
   bound = λ p. absurd p;
   unplaced = λ p. tt;
-  old = λ w. let z : ◌≡◌ {A = ℕ} 0 1 = cc in clash z;
+  old = λ w. clash cc;
   seen = λ p. tt;
   placed = λ p. p;
   other = λ x j q. refl;
@@ -131,13 +111,13 @@ look_claims {K} {p} {s} o t q th v l ep e = head_inv o t (Placing q th) v record
     upd_same o.hd q.0 (claimed t),
     then_goes K o.shape o.hd (upd o.hd q.0 (claimed t)) o.prim (Meeting o.tasks) (Meeting (upd o.tasks t (goes (o.tasks t) (Placing q th)))) t
         (o.tasks t) (Placing q th) q.0 th (head_placed o.hd q.0 (claimed t) (λ p. rw e at p))
-        (λ x i w. rw (upd_other o.hd q.0 (claimed t) x (λ z. let a : o.hd x ≡ o.hd q.0 = ap o.hd z in let n : ◌≡◌ {A = ℕ} 0 1 = cc in clash n)) w)
+        (λ x i w. rw (upd_other o.hd q.0 (claimed t) x (λ z. let a : o.hd x ≡ o.hd q.0 = ap o.hd z in clash cc)) w)
         (λ x i. meeting_after o.tasks t (goes (o.tasks t) (Placing q th)) x i (λ m. absurd (rw ep at m.1))) h.3,
   );
-  lock = λ i u w. let z : ◌≡◌ {A = ℕ} 0 1 = cc in clash z;
-  claim = λ u w. let z : ◌≡◌ {A = ℕ} 0 1 = cc in clash z;
-  locks = λ i u w. let z : ◌≡◌ {A = ℕ} 0 1 = cc in clash z;
-  claims = λ u w. let z : u ≡ t = cc in (z, claim_place q th);
+  lock = λ i u w. clash cc;
+  claim = λ u w. clash cc;
+  locks = λ i u w. clash cc;
+  claims = λ u w. let z : u ≡ t = cc in (z, placing_claims q th);
   jobs = λ x i d j. job_place q th x i (rw ep at j);
   owns = λ x d j. absurd (look_claim q th x (rw ep at j));
   meets = λ m. rw ep at m;
@@ -213,10 +193,10 @@ places {K} {p} {s} o t q th v l ep = head_inv o t (go_on th (replica q.0)) v rec
       (then_goes K o.shape o.hd hd' o.prim (Meeting o.tasks) (Meeting (upd o.tasks t e')) t (o.tasks t) (go_on th (replica q.0)) q.0 th
       (head_placed o.hd q.0 (count (o.shape.len q.0)) (λ p. tt)) lock
       (λ x i. meeting_after o.tasks t e' x i (λ m. absurd (rw ep at m.1))) h.4);
-  lock = λ i u w. let z : ◌≡◌ {A = ℕ} 0 1 = cc in clash z;
+  lock = λ i u w. clash cc;
   claim = λ u w. cc;
-  locks = λ i u w. let z : ◌≡◌ {A = ℕ} 0 1 = cc in clash z;
-  claims = λ u w. let z : ◌≡◌ {A = ℕ} 0 1 = cc in clash z;
+  locks = λ i u w. clash cc;
+  claims = λ u w. clash cc;
   jobs = λ x i d j. look_job q th (replica q.0) x i (place_job q th x i (rw ep at j));
   owns = λ x d j. absurd (d (place_claim q th x (rw ep at j)));
   meets = λ m. absurd (rw ep at m);

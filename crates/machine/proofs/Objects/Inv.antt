@@ -1,13 +1,11 @@
 -- The invariant of the heap by objects, in groups: shapes and what is kept; headers and copies; entries and places; owners.
-use Rattle.std.specs.Prelude.{ℕ, suc, ◌≤◌, ◌<◌, ◌≡◌, ◌⊎◌, List, [], Bool, true, false, length, ltb}
+use Rattle.std.specs.Prelude.{ℕ, suc, ◌≤◌, ◌<◌, ◌≡◌, ◌⊎◌, List, [], Bool, true, false, length, ltb, Option, Some, None}
+use Rattle.table.specs.declared.Making.{Making}
+use Rattle.table.specs.declared.Slot.{Slot}
 use Rattle.table.specs.declared.Operand.{Operand}
+use Rattle.table.specs.declared.Primary.{Primary}
+use Rattle.table.specs.declared.Replica.{Replica}
 use Rattle.table.specs.declared.Operand.TheVariants.{Plain, Pointer}
-use Rattle.table.specs.declared.Copied.{Copied}
-use Rattle.table.specs.declared.Copied.TheVariants.{Same, Renamed}
-use Rattle.table.specs.declared.Pending.{Pending}
-use Rattle.table.specs.declared.Pending.TheVariants.{Nothing, Making}
-use Rattle.table.specs.declared.Storing.{Storing}
-use Rattle.table.specs.declared.Storing.TheVariants.{Nowhere, Slot}
 use Rattle.table.specs.declared.Then.{Then}
 use Rattle.table.specs.declared.Then.TheVariants.{ToWrite, ToStoreCopy, ToFillCopy, ToPut}
 use Rattle.table.specs.declared.Place.{Place}
@@ -27,14 +25,14 @@ use Rattle.machine.proofs.Objects.State.{Hd, white, claimed, count, locked, Shap
 abbrev pub Sound : (ℕ → Type 0) → Shape → ℕ → Type 0
 Sound K sh x = K x × (x ≤ sh.n) × (sh.fill x ≡ sh.len x)
 
-abbrev pub SoundOperand : (ℕ → Type 0) → Shape → Operand → Type 0
+abbrev pub SoundOperand : (ℕ → Type 0) → Shape → Operand Primary → Type 0
 SoundOperand K sh (Plain w) = Unit {0}
 SoundOperand K sh (Pointer p) = Sound K sh p.0
 
 -- a value for a replica's slot: its target is placed
-abbrev pub SoundCopied : (ℕ → Type 0) → Shape → (ℕ → Hd) → Copied → Type 0
-SoundCopied K sh hd (Same w) = Unit {0}
-SoundCopied K sh hd (Renamed r) = Sound K sh r.0 × IsPlaced (hd r.0)
+abbrev pub SoundCopied : (ℕ → Type 0) → Shape → (ℕ → Hd) → Operand Replica → Type 0
+SoundCopied K sh hd (Plain w) = Unit {0}
+SoundCopied K sh hd (Pointer r) = Sound K sh r.0 × IsPlaced (hd r.0)
 
 -- nil is kept, has no slot, and counts as placed; pointers in filled slots of kept objects are sound, those in written slots name objects made
 pub record Shapes (K : ℕ → Type 0) (s : ℕ) (sh : Shape) (prim : ℕ → ℕ → ℕ) (hd : ℕ → Hd) : Type 0 where
@@ -79,14 +77,14 @@ pub record Colours (K : ℕ → Type 0) (sh : Shape) (g : Snapshot) (hd : ℕ �
   pub known : g.n ≤ sh.n
 
 -- ---- task entries: registers, the pending object, the object of a Store
-abbrev pub PendingOk : (ℕ → Type 0) → Shape → (ℕ → Hd) → Bool → Pending → Type 0
-PendingOk K sh hd on Nothing = Unit {0}
-PendingOk K sh hd on (Making x r len f) =
-    (0 < x.0) × K x.0 × (x.0 ≤ sh.n) × (len ≡ sh.len x.0) × (f ≡ sh.fill x.0) × (r < 8) × (on ≡ true → IsPlaced (hd x.0))
+abbrev pub PendingOk : (ℕ → Type 0) → Shape → (ℕ → Hd) → Bool → Option Making → Type 0
+PendingOk K sh hd on None = Unit {0}
+PendingOk K sh hd on (Some d) =
+    (0 < d.at.0) × K d.at.0 × (d.at.0 ≤ sh.n) × (d.len ≡ sh.len d.at.0) × (d.filled ≡ sh.fill d.at.0) × (d.register < 8) × (on ≡ true → IsPlaced (hd d.at.0))
 
-abbrev pub StoringOk : (ℕ → Type 0) → Shape → Storing → Type 0
-StoringOk K sh Nowhere = Unit {0}
-StoringOk K sh (Slot x i) = (0 < x.0) × Sound K sh x.0 × (i < sh.len x.0)
+abbrev pub StoringOk : (ℕ → Type 0) → Shape → Option Slot → Type 0
+StoringOk K sh None = Unit {0}
+StoringOk K sh (Some y) = (0 < y.object.0) × Sound K sh y.object.0 × (y.index < sh.len y.object.0)
 
 pub record EntryOk (K : ℕ → Type 0) (sh : Shape) (hd : ℕ → Hd) (on : Bool) (e : Task) : Type 0 where
   pub eight : length e.regs ≡ 8
@@ -96,14 +94,14 @@ pub record EntryOk (K : ℕ → Type 0) (sh : Shape) (hd : ℕ → Hd) (on : Boo
 
 -- ---- places; Mt: the slots that a Store at Meet is on
 -- a pending object with a slot still to fill
-abbrev pub Unfull : Pending → Type 0
-Unfull Nothing = Unit {0}
-Unfull (Making x r len f) = f < len
+abbrev pub Unfull : Option Making → Type 0
+Unfull None = Unit {0}
+Unfull (Some d) = d.filled < d.len
 
 -- between the two writes of a Fill: the pending object's next slot has been written with v
 abbrev pub HalfFilled : Shape → (ℕ → ℕ → ℕ) → Task → ℕ → Bool → Type 0
 HalfFilled sh prim e v pointer =
-    (e.storing ≡ Nowhere)
+    (e.storing ≡ None)
     × OfPending e.pending (λ x. (sh.fill x < sh.len x) × (sh.wrote x ≡ suc (sh.fill x)) × (prim x (sh.fill x) ≡ v) × (pointer ≡ ltb (sh.fill x) (sh.ptr x)))
 
 -- what a look at q, and what follows it, stand on
@@ -112,18 +110,18 @@ ThenOk K sh hd prim Mt t e q (ToWrite v) =
     OfStore e.storing (λ x i. (i < sh.ptr x) × (prim x i ≡ q)) × (is_pointer v ≡ true) × SoundOperand K sh v
 ThenOk K sh hd prim Mt t e q ToStoreCopy = OfStore e.storing (λ x i. (i < sh.ptr x) × (prim x i ≡ q) × IsPlaced (hd x))
 ThenOk K sh hd prim Mt t e q ToFillCopy = HalfFilled sh prim e q true
-ThenOk K sh hd prim Mt t e q (ToPut n x i) =
-    (0 < n) × (hd x.0 ≡ locked i t) × (i < sh.ptr x.0) × ((prim x.0 i ≡ q) ⊎ Mt x.0 i)
+ThenOk K sh hd prim Mt t e q (ToPut n job) =
+    (0 < n) × (hd job.object.0 ≡ locked job.index t) × (job.index < sh.ptr job.object.0) × ((prim job.object.0 job.index ≡ q) ⊎ Mt job.object.0 job.index)
 
 abbrev pub NewOk : ℕ → Task → ℕ → ℕ → ℕ → Type 0
-NewOk s e r len m = (e.pending ≡ Nothing) × (e.storing ≡ Nowhere) × (r < 8) × (len ≤ s) × (m ≤ len)
+NewOk s e r len m = (e.pending ≡ None) × (e.storing ≡ None) × (r < 8) × (len ≤ s) × (m ≤ len)
 
 abbrev pub PlaceOk : (ℕ → Type 0) → ℕ → Shape → (ℕ → Hd) → (ℕ → ℕ → ℕ) → (ℕ → ℕ → ℕ) → (ℕ → ℕ → Bool) → (ℕ → ℕ → Type 0) → Bool → ℕ → Task → Place → Type 0
-PlaceOk K s sh hd prim rep has Mt on t e Idle = Unfull e.pending × (e.storing ≡ Nowhere)
-PlaceOk K s sh hd prim rep has Mt on t e (New r len m) = NewOk s e r len m
-PlaceOk K s sh hd prim rep has Mt on t e (Asked r len m) = (on ≡ false) × NewOk s e r len m
+PlaceOk K s sh hd prim rep has Mt on t e Idle = Unfull e.pending × (e.storing ≡ None)
+PlaceOk K s sh hd prim rep has Mt on t e (New want) = NewOk s e want.register want.len want.m
+PlaceOk K s sh hd prim rep has Mt on t e (Asked want) = (on ≡ false) × NewOk s e want.register want.len want.m
 PlaceOk K s sh hd prim rep has Mt on t e (FillWrite v) =
-    (e.storing ≡ Nowhere) × OfPending e.pending (λ x. (sh.fill x < sh.len x) × (is_pointer v ≡ ltb (sh.fill x) (sh.ptr x))) × SoundOperand K sh v
+    (e.storing ≡ None) × OfPending e.pending (λ x. (sh.fill x < sh.len x) × (is_pointer v ≡ ltb (sh.fill x) (sh.ptr x))) × SoundOperand K sh v
 PlaceOk K s sh hd prim rep has Mt on t e (FillCopy c) =
     (on ≡ true) × HalfFilled sh prim e (copied_word c) (is_renamed c) × SoundCopied K sh hd c
 PlaceOk K s sh hd prim rep has Mt on t e (StoreWrite v) =
@@ -133,13 +131,13 @@ PlaceOk K s sh hd prim rep has Mt on t e (Meet v) =
 PlaceOk K s sh hd prim rep has Mt on t e (StoreCopy c) =
     (on ≡ true) × OfStore e.storing (λ x i. (is_renamed c ≡ ltb i (sh.ptr x)) × (prim x i ≡ copied_word c) × IsPlaced (hd x)) × SoundCopied K sh hd c
 PlaceOk K s sh hd prim rep has Mt on t e (Take n) = (on ≡ true) × (0 < n)
-PlaceOk K s sh hd prim rep has Mt on t e (Read n x i) = (on ≡ true) × (0 < n) × (hd x.0 ≡ locked i t)
-PlaceOk K s sh hd prim rep has Mt on t e (Put n x i c) =
-    (on ≡ true) × (0 < n) × (hd x.0 ≡ locked i t) × (is_renamed c ≡ ltb i (sh.ptr x.0))
-    × ((prim x.0 i ≡ copied_word c) ⊎ Mt x.0 i) × SoundCopied K sh hd c
-PlaceOk K s sh hd prim rep has Mt on t e (Release n x i) =
-    (on ≡ true) × (0 < n) × (hd x.0 ≡ locked i t) × (has x.0 i ≡ true)
-    × ((rep x.0 i ≡ prim x.0 i) ⊎ Mt x.0 i)
+PlaceOk K s sh hd prim rep has Mt on t e (Read n job) = (on ≡ true) × (0 < n) × (hd job.object.0 ≡ locked job.index t)
+PlaceOk K s sh hd prim rep has Mt on t e (Put n job c) =
+    (on ≡ true) × (0 < n) × (hd job.object.0 ≡ locked job.index t) × (is_renamed c ≡ ltb job.index (sh.ptr job.object.0))
+    × ((prim job.object.0 job.index ≡ copied_word c) ⊎ Mt job.object.0 job.index) × SoundCopied K sh hd c
+PlaceOk K s sh hd prim rep has Mt on t e (Release n job) =
+    (on ≡ true) × (0 < n) × (hd job.object.0 ≡ locked job.index t) × (has job.object.0 job.index ≡ true)
+    × ((rep job.object.0 job.index ≡ prim job.object.0 job.index) ⊎ Mt job.object.0 job.index)
 PlaceOk K s sh hd prim rep has Mt on t e (Looking q th) =
     (on ≡ true) × (0 < q.0) × Sound K sh q.0 × ThenOk K sh hd prim Mt t e q.0 th
 PlaceOk K s sh hd prim rep has Mt on t e (Placing q th) =

@@ -1,18 +1,16 @@
 -- What a change keeps for a task whose entry it leaves alone: its registers, its pending object, its Store, its place.
-use Rattle.std.specs.Prelude.{ℕ, ◌≤◌, ◌<◌, ◌≡◌, refl, ◌⊎◌, Bool, true}
+use Rattle.std.specs.Prelude.{ℕ, ◌≤◌, ◌<◌, ◌≡◌, refl, ◌⊎◌, Bool, true, Option, Some, None}
 use Rattle.std.proofs.Common.{sym, ◌∙◌, arith}
+use Rattle.table.specs.declared.Making.{Making}
+use Rattle.table.specs.declared.Slot.{Slot}
 use Rattle.table.specs.declared.Operand.{Operand}
+use Rattle.table.specs.declared.Primary.{Primary}
+use Rattle.table.specs.declared.Replica.{Replica}
 use Rattle.table.specs.declared.Operand.TheVariants.{Plain, Pointer}
-use Rattle.table.specs.declared.Copied.{Copied}
-use Rattle.table.specs.declared.Copied.TheVariants.{Same, Renamed}
-use Rattle.table.specs.declared.Pending.{Pending}
-use Rattle.table.specs.declared.Pending.TheVariants.{Nothing, Making}
-use Rattle.table.specs.declared.Storing.{Storing}
-use Rattle.table.specs.declared.Storing.TheVariants.{Nowhere, Slot}
 use Rattle.table.specs.declared.Then.{Then}
 use Rattle.table.specs.declared.Then.TheVariants.{ToWrite, ToStoreCopy, ToFillCopy, ToPut}
 use Rattle.table.specs.declared.Place.{Place}
-use Rattle.table.specs.declared.Place.TheVariants.{Idle, New, Asked, FillWrite, FillCopy, StoreWrite, Meet, StoreCopy, Take, Read, Put, Release, Looking, Placing}
+use Rattle.table.specs.declared.Place.TheVariants.{FillWrite, FillCopy, StoreWrite, Meet, StoreCopy, Read, Put, Release, Looking, Placing}
 use Rattle.table.specs.declared.Task.{Task}
 use Rattle.machine.proofs.Objects.State.{Hd, claimed, locked, Shape, IsSeen, IsPlaced, pending_is, OfPending, OfStore, On}
 use Rattle.machine.proofs.Objects.Inv.{Sound, SoundOperand, SoundCopied, PendingOk, StoringOk, EntryOk, HalfFilled, ThenOk, PlaceOk}
@@ -39,44 +37,44 @@ pub record Keep (K : ℕ → Type 0) (sh sh' : Shape) (hd hd' : ℕ → Hd) (pri
   pub next : (x : ℕ) → pending_is e.pending ≡ x → 0 < x → prim' x (sh.fill x) ≡ prim x (sh.fill x)
 
 -- a fact of the Store's slot, or of the pending object, made into another
-pub of_store : (s : Storing) {P Q : ℕ → ℕ → Type 0} → ((x i : ℕ) → On s x i → P x i → Q x i) → OfStore s P → OfStore s Q
-of_store Nowhere f p = p
-of_store (Slot x i) f p = f x.0 i (refl, refl) p
+pub of_store : (s : Option Slot) {P Q : ℕ → ℕ → Type 0} → ((x i : ℕ) → On s x i → P x i → Q x i) → OfStore s P → OfStore s Q
+of_store None f p = p
+of_store (Some y) f p = f y.object.0 y.index (refl, refl) p
 
-pub of_pending : (K : ℕ → Type 0) (sh : Shape) (hd : ℕ → Hd) (on : Bool) (d : Pending) → PendingOk K sh hd on d → {P Q : ℕ → Type 0}
+pub of_pending : (K : ℕ → Type 0) (sh : Shape) (hd : ℕ → Hd) (on : Bool) (d : Option Making) → PendingOk K sh hd on d → {P Q : ℕ → Type 0}
     → ((x : ℕ) → pending_is d ≡ x → 0 < x → x ≤ sh.n → P x → Q x) → OfPending d P → OfPending d Q
-of_pending K sh hd on Nothing o f p = p
-of_pending K sh hd on (Making x r len f) o g p = g x.0 refl o.0 o.2 p
+of_pending K sh hd on None o f p = p
+of_pending K sh hd on (Some d) o g p = g d.at.0 refl o.0 o.2 p
 
-pub store_made : (K : ℕ → Type 0) (sh : Shape) (s : Storing) → StoringOk K sh s → (x i : ℕ) → On s x i → x ≤ sh.n
-store_made K sh Nowhere o x i p = absurd p
-store_made K sh (Slot y j) o x i p = let a : y.0 ≡ x = p.0 in omega (arith, o.1.1)
+pub store_made : (K : ℕ → Type 0) (sh : Shape) (s : Option Slot) → StoringOk K sh s → (x i : ℕ) → On s x i → x ≤ sh.n
+store_made K sh None o x i p = absurd p
+store_made K sh (Some y) o x i p = let a : y.object.0 ≡ x = p.0 in omega (arith, o.1.1)
 
 module _ {K : ℕ → Type 0} {sh sh' : Shape} {hd hd' : ℕ → Hd} {prim prim' rep rep' : ℕ → ℕ → ℕ} {has has' : ℕ → ℕ → Bool} {Mt Mt' : ℕ → ℕ → Type 0} {u : ℕ} {e : Task}
     (k : Keep K sh sh' hd hd' prim prim' rep rep' has has' Mt Mt' u e) where
-  keep_operand : (v : Operand) → SoundOperand K sh v → SoundOperand K sh' v
+  keep_operand : (v : Operand Primary) → SoundOperand K sh v → SoundOperand K sh' v
   keep_operand (Plain w) o = tt
   keep_operand (Pointer p) o = k.sound p.0 o
 
-  keep_copied : (c : Copied) → SoundCopied K sh hd c → SoundCopied K sh' hd' c
-  keep_copied (Same w) o = tt
-  keep_copied (Renamed r) o = (k.sound r.0 o.0, k.placed r.0 o.1)
+  keep_copied : (c : Operand Replica) → SoundCopied K sh hd c → SoundCopied K sh' hd' c
+  keep_copied (Plain w) o = tt
+  keep_copied (Pointer r) o = (k.sound r.0 o.0, k.placed r.0 o.1)
 
-  keep_pending : (on : Bool) (d : Pending) → pending_is d ≡ pending_is e.pending → PendingOk K sh hd on d → PendingOk K sh' hd' on d
-  keep_pending on Nothing q o = tt
-  keep_pending on (Making x r len f) q o = (
+  keep_pending : (on : Bool) (d : Option Making) → pending_is d ≡ pending_is e.pending → PendingOk K sh hd on d → PendingOk K sh' hd' on d
+  keep_pending on None q o = tt
+  keep_pending on (Some d) q o = (
     o.0,
     o.1,
     omega (arith, o.2, k.size),
-    o.3 ∙ sym (k.len x.0 o.2),
-    o.4 ∙ sym (k.fill x.0 (sym q) o.0),
+    o.3 ∙ sym (k.len d.at.0 o.2),
+    o.4 ∙ sym (k.fill d.at.0 (sym q) o.0),
     o.5,
-    λ c. k.placed x.0 (o.6 c),
+    λ c. k.placed d.at.0 (o.6 c),
   )
 
-  keep_storing : (s : Storing) → StoringOk K sh s → StoringOk K sh' s
-  keep_storing Nowhere o = tt
-  keep_storing (Slot x i) o = let a = k.len x.0 o.1.1 in (o.0, k.sound x.0 o.1, omega (arith, o.2))
+  keep_storing : (s : Option Slot) → StoringOk K sh s → StoringOk K sh' s
+  keep_storing None o = tt
+  keep_storing (Some y) o = let a = k.len y.object.0 o.1.1 in (o.0, k.sound y.object.0 o.1, omega (arith, o.2))
 
   pub keep_entry : (on : Bool) → EntryOk K sh hd on e → EntryOk K sh' hd' on e
   keep_entry on o = record {
@@ -103,12 +101,9 @@ module _ {K : ℕ → Type 0} {sh sh' : Shape} {hd hd' : ℕ → Hd} {prim prim'
     keep_then q ToStoreCopy h =
         of_store e.storing (λ x i a h. (rw (k.ptr x (made x i a)) h.0, rw (k.store x i a) h.1, k.placed x h.2)) h
     keep_then q ToFillCopy h = keep_half q true h
-    keep_then q (ToPut n x i) h = (h.0, k.lock x.0 i h.1, rw (k.slots x.0 i h.1) h.2, k.read x.0 i q h.1 h.3)
+    keep_then q (ToPut n job) h = (h.0, k.lock job.object.0 job.index h.1, rw (k.slots job.object.0 job.index h.1) h.2, k.read job.object.0 job.index q h.1 h.3)
 
     pub keep_place : (s : ℕ) (pl : Place) → PlaceOk K s sh hd prim rep has Mt on u e pl → PlaceOk K s sh' hd' prim' rep' has' Mt' on u e pl
-    keep_place s Idle h = h
-    keep_place s (New r len m) h = h
-    keep_place s (Asked r len m) h = h
     keep_place s (FillWrite v) h = (
       h.0,
       of_pending K sh hd on e.pending o.pending (λ x q z m h. rw (k.fill x q z, k.len x m, k.ptr x m) h) h.1,
@@ -127,10 +122,10 @@ module _ {K : ℕ → Type 0} {sh sh' : Shape} {hd hd' : ℕ → Hd} {prim prim'
       of_store e.storing (λ x i a h. (rw (k.ptr x (made x i a)) h.0, rw (k.store x i a) h.1, k.placed x h.2)) h.1,
       keep_copied c h.2,
     )
-    keep_place s (Take n) h = h
-    keep_place s (Read n x i) h = (h.0, h.1, k.lock x.0 i h.2)
-    keep_place s (Put n x i c) h =
-        (h.0, h.1, k.lock x.0 i h.2, rw (k.slots x.0 i h.2) h.3, k.read x.0 i _ h.2 h.4, keep_copied c h.5)
-    keep_place s (Release n x i) h = (h.0, h.1, k.lock x.0 i h.2, k.written x.0 i h.2 h.3, k.put x.0 i h.2 h.4)
+    keep_place s (Read n job) h = (h.0, h.1, k.lock job.object.0 job.index h.2)
+    keep_place s (Put n job c) h =
+        (h.0, h.1, k.lock job.object.0 job.index h.2, rw (k.slots job.object.0 job.index h.2) h.3, k.read job.object.0 job.index _ h.2 h.4, keep_copied c h.5)
+    keep_place s (Release n job) h = (h.0, h.1, k.lock job.object.0 job.index h.2, k.written job.object.0 job.index h.2 h.3, k.put job.object.0 job.index h.2 h.4)
     keep_place s (Looking q th) h = (h.0, h.1, k.sound q.0 h.2, keep_then q.0 th h.3)
     keep_place s (Placing q th) h = (h.0, h.1, k.sound q.0 h.2, k.claim q.0 h.3, keep_then q.0 th h.4)
+    keep_place s _ h = h

@@ -3,11 +3,11 @@ use Rattle.std.specs.Prelude.{ℕ, ◌≤◌, ◌<◌, ◌≡◌, refl, ◌≢�
 use Rattle.std.proofs.Common.{sym, subst, ◌∙◌, inl, inr, arith}
 use Rattle.std.proofs.Math.Decide.{ℕ_discrete}
 use Rattle.table.specs.declared.Place.{Place}
-use Rattle.table.specs.declared.Place.TheVariants.{Idle, New, Asked, FillWrite, FillCopy, StoreWrite, Meet, StoreCopy, Take, Read, Put, Release, Looking, Placing}
+use Rattle.table.specs.declared.Place.TheVariants.{Meet, StoreCopy, Looking, Placing}
 use Rattle.table.specs.declared.Task.{Task}
 use Rattle.machine.specs.Setup.{fresh_task}
 use Rattle.machine.proofs.Objects.Base.{upd, upd_same, upd_other, upd_all}
-use Rattle.machine.proofs.Objects.State.{Hd, white, claimed, count, locked, Shape, Snapshot, State, IsSeen, IsPlaced, left, pending_is, On, HasJob, HasClaim, MeetsAt, LateAt, Meeting, Late}
+use Rattle.machine.proofs.Objects.State.{Hd, white, claimed, locked, Shape, Snapshot, State, IsSeen, IsPlaced, left, pending_is, On, HasJob, HasClaim, MeetsAt, LateAt, Meeting, Late}
 use Rattle.machine.proofs.Objects.Inv.{Sound, Shapes, Colours, EntryOk, PlaceOk, Owners, Mode, Inv}
 use Rattle.machine.proofs.Objects.Ops.{state, goes, moves}
 use Rattle.machine.proofs.Objects.Keep.{Keep, keep_entry, keep_place}
@@ -122,20 +122,11 @@ pub record MoveOk (K : ℕ → Type 0) (p s : ℕ) (o : State) (t : ℕ) (e' : T
 
 -- a Store at Meet is late
 pub meets_late : (pl : Place) → MeetsAt pl → LateAt pl
-meets_late Idle m = m
-meets_late (New r len k) m = m
-meets_late (Asked r len k) m = m
-meets_late (FillWrite v) m = m
-meets_late (FillCopy c) m = m
-meets_late (StoreWrite v) m = m
 meets_late (Meet v) m = tt
 meets_late (StoreCopy c) m = tt
-meets_late (Take n) m = m
-meets_late (Read n x i) m = m
-meets_late (Put n x i c) m = m
-meets_late (Release n x i) m = m
 meets_late (Looking q th) m = absurd m
 meets_late (Placing q th) m = absurd m
+meets_late _ m = m
 
 pub meeting_late : (ts : ℕ → Task) (x j : ℕ) → Meeting ts x j → Late ts x j
 meeting_late ts x j (u, a, b) = (u, a, meets_late (ts u).place b)
@@ -168,9 +159,7 @@ keep_same {K} {sh} {hd} {prim} {rep} {has} {Mt} {Mt'} {u} f = record {
 
 seen? : (h : Hd) → Dec (IsSeen h)
 seen? white = no (λ p. p)
-seen? (claimed t) = yes tt
-seen? (count c) = yes tt
-seen? (locked i t) = yes tt
+seen? _ = yes tt
 
 -- other slots are late: a copied slot that does not agree stays so, and what becomes late has had its old pointer seen
 pub late_colours : {K : ℕ → Type 0} {sh : Shape} {g : Snapshot} {hd : ℕ → Hd} {prim rep : ℕ → ℕ → ℕ} {has : ℕ → ℕ → Bool} {stack : List ℕ} {Lt Lt' : ℕ → ℕ → Type 0}

@@ -1,16 +1,14 @@
 -- A New makes an object: nothing referred to its number before, so the invariant is kept.
-use Rattle.std.specs.Prelude.{ℕ, suc, ◌≤◌, ◌<◌, ◌≡◌, refl, ◌≢◌, ◌⊎◌, List, Bool, true, false}
+use Rattle.std.specs.Prelude.{ℕ, suc, ◌≤◌, ◌<◌, ◌≡◌, refl, ◌⊎◌, List, Bool, true, false, Option, Some, None}
 use Rattle.std.proofs.Common.{sym, ◌∙◌, inl, inr, arith}
-use Rattle.std.proofs.Math.Decide.{ℕ_discrete}
-use Rattle.table.specs.declared.Pending.{Pending}
-use Rattle.table.specs.declared.Pending.TheVariants.{Nothing, Making}
-use Rattle.table.specs.declared.Storing.TheVariants.{Nowhere}
+use Rattle.machine.specs.Entries.{pending_with}
+use Rattle.table.specs.declared.Making.{Making}
 use Rattle.table.specs.declared.Place.TheVariants.{New, Asked, Take}
 use Rattle.table.specs.declared.Task.{Task}
-use Rattle.machine.specs.Words.{primary}
+use Rattle.machine.specs.Words.{primary, wanted}
 use Rattle.machine.specs.Tasks.{holding_of}
 use Rattle.machine.specs.Switch.{ended_entry}
-use Rattle.machine.proofs.Objects.Base.{off_on, upd, upd_same, upd_other}
+use Rattle.machine.proofs.Objects.Base.{off_on, upd, upd_same, upd_other, at_one}
 use Rattle.machine.proofs.Objects.State.{Hd, count, Shape, Snapshot, State, IsSeen, IsPlaced, IsUnplaced, left, root, pending_is, LateAt, MeetsAt, Meeting, Late}
 use Rattle.machine.proofs.Objects.Inv.{Sound, Shapes, Colours, PendingOk, EntryOk, NewOk, PlaceOk, Mode, Inv}
 use Rattle.machine.proofs.Objects.Ops.{goes_with, one_more, makes}
@@ -18,19 +16,12 @@ use Rattle.machine.proofs.Objects.Late.{late_after, late_before, meeting_after}
 use Rattle.machine.proofs.Objects.SlotLaws.{Holdless, owners_inv, late_mode, join}
 use Rattle.machine.proofs.Objects.FillLaws.{reach_keep}
 use Rattle.machine.proofs.Objects.Ended.{EndedOk, ended_ok}
-
--- at x, and everywhere else
-at_one : (x : ℕ) (P : ℕ → Type 0) → P x → ((a : ℕ) → a ≢ x → P a) → (a : ℕ) → P a
-at_one x P p q a = on (ℕ_discrete a x)
-  where
-    on : Dec (a ≡ x) → P a
-    on (yes e) = rw e p
-    on (no d) = q a d
+use Rattle.machine.proofs.Objects.MoveLaws.{or_right}
 
 -- a task's pending object has been made
-pending_made : (K : ℕ → Type 0) (sh : Shape) (hd : ℕ → Hd) (on : Bool) (d : Pending) → PendingOk K sh hd on d → (a : ℕ) → pending_is d ≡ a → 0 < a → a ≤ sh.n
-pending_made K sh hd on Nothing o a z l = absurd (omega arith)
-pending_made K sh hd on (Making x r len f) o a z l = omega (arith, o.2)
+pending_made : (K : ℕ → Type 0) (sh : Shape) (hd : ℕ → Hd) (on : Bool) (d : Option Making) → PendingOk K sh hd on d → (a : ℕ) → pending_is d ≡ a → 0 < a → a ≤ sh.n
+pending_made K sh hd on None o a z l = absurd (omega arith)
+pending_made K sh hd on (Some d) o a z l = omega (arith, o.2)
 
 -- ---- one object more
 module _ (sh : Shape) (len m : ℕ) where
@@ -127,7 +118,7 @@ module _ {K : ℕ → Type 0} {p s : ℕ} {o : State} (v : Inv K p s o) (t : ℕ
       c.newer (suc o.shape.n) (omega (arith, c.known))
 
   -- the object just made, as the task's pending object
-  made : r < 8 → PendingOk K (one_more o.shape len m) o.hd o.on (Making (primary (suc o.shape.n)) r len 0)
+  made : r < 8 → PendingOk K (one_more o.shape len m) o.hd o.on (pending_with (primary (suc o.shape.n)) r len 0)
   made h = (
     omega arith,
     (v.shapes.future (suc o.shape.n) (omega arith)).0,
@@ -145,7 +136,7 @@ module _ {K : ℕ → Type 0} {p s : ℕ} {o : State} (v : Inv K p s o) (t : ℕ
   makes_inv : (e : Task) → NewOk s (o.tasks t) r len m → Holdless (o.tasks t).place → (LateAt (o.tasks t).place → ⊥) → (MeetsAt (o.tasks t).place → ⊥)
       → EntryOk K (one_more o.shape len m) o.hd o.on e
       → PlaceOk K s (one_more o.shape len m) o.hd o.prim o.rep (upd o.has (suc o.shape.n) (λ j. false)) (Meeting (upd o.tasks t e)) o.on t e e.place
-      → (LateAt e.place → ⊥) → (0 < pending_is e.pending → pending_is e.pending ≡ suc o.shape.n) → e.storing ≡ Nowhere
+      → (LateAt e.place → ⊥) → (0 < pending_is e.pending → pending_is e.pending ≡ suc o.shape.n) → e.storing ≡ None
       → Inv K p s (makes o len m t e)
   makes_inv e nw free late meets eo po quiet only nowhere =
       join t e v (more_shapes o.shape len m v.shapes nw.3 nw.4) (more o.on later) (more_sound o.shape len m K) eo po
@@ -160,8 +151,8 @@ module _ {K : ℕ → Type 0} {p s : ℕ} {o : State} (v : Inv K p s o) (t : ℕ
         claim = λ a z. z;
         lock = λ a j z. z;
         slots = λ a j z. more_ptr o.shape len m a (v.owners.locker a j u z).2;
-        read = λ a j c z. or (met a j);
-        put = λ a j z. or (met a j);
+        read = λ a j c z. or_right (met a j);
+        put = λ a j z. or_right (met a j);
         written = λ a j z d. rw (upd_other o.has (suc o.shape.n) (λ j. false) a (λ e. absurd (omega (arith, (v.owners.locker a j u z).2)))) d;
         store = λ a j z. refl;
         fill = λ a z d. more_fill o.shape len m a (pending u a z d);
@@ -175,10 +166,6 @@ module _ {K : ℕ → Type 0} {p s : ℕ} {o : State} (v : Inv K p s o) (t : ℕ
       met : (a j : ℕ) → Meeting o.tasks a j → Meeting (upd o.tasks t e) a j
       met a j = meeting_after o.tasks t e a j (λ z. absurd (meets z.1))
 
-      or : {A B C : Type 0} → (B → C) → A ⊎ B → A ⊎ C
-      or f (inl a) = inl a
-      or f (inr b) = inr (f b)
-
       later : Mode o.on K o.shape o.snap o.hd o.prim o.rep o.has o.stack (Late (upd o.tasks t e))
       later = late_mode v (upd o.tasks t e) (λ a j. late_after o.tasks t e a j (λ z. absurd (late z.1))) (λ a j. late_before o.tasks t e a j (λ z. absurd (quiet z.1)))
 
@@ -187,30 +174,30 @@ module _ {K : ℕ → Type 0} {p s : ℕ} {o : State} (v : Inv K p s o) (t : ℕ
       more true c = more_colours o.shape len m c empty
       more false c = c
 
-  pub new_on : o.on ≡ true → (o.tasks t).place ≡ New r len m → (k : ℕ) → 0 < k
-      → Inv K p s (makes o len m t (goes_with (o.tasks t) (Making (primary (suc o.shape.n)) r len 0) (Take k)))
+  pub new_on : o.on ≡ true → (o.tasks t).place ≡ New (wanted r len m) → (k : ℕ) → 0 < k
+      → Inv K p s (makes o len m t (goes_with (o.tasks t) (pending_with (primary (suc o.shape.n)) r len 0) (Take k)))
   unfolding holding_of
   new_on on pe k kp =
-      makes_inv (goes_with (o.tasks t) (Making (primary (suc o.shape.n)) r len 0) (Take k)) nw (rw pe (λ a j z. z, λ a z. z)) (rw pe (λ z. z)) (rw pe (λ z. z))
+      makes_inv (goes_with (o.tasks t) (pending_with (primary (suc o.shape.n)) r len 0) (Take k)) nw (rw pe (λ a j z. z, λ a z. z)) (rw pe (λ z. z)) (rw pe (λ z. z))
       (record { eight = (v.entries t).eight; regs = regs; pending = made nw.2; storing = rw nw.1 tt }) (on, kp) (λ z. z) (λ z. refl) nw.1
     where
       nw : NewOk s (o.tasks t) r len m
       nw = rw pe at (v.places t)
 
-  pub new_off : o.on ≡ false → ((o.tasks t).place ≡ New r len m) ⊎ ((o.tasks t).place ≡ Asked r len m)
-      → Inv K p s (makes o len m t (ended_entry (o.tasks t).regs (Making (primary (suc o.shape.n)) r len 0)))
+  pub new_off : o.on ≡ false → ((o.tasks t).place ≡ New (wanted r len m)) ⊎ ((o.tasks t).place ≡ Asked (wanted r len m))
+      → Inv K p s (makes o len m t (ended_entry (o.tasks t).regs (pending_with (primary (suc o.shape.n)) r len 0)))
   unfolding holding_of
   new_off off = by
     where
       go : NewOk s (o.tasks t) r len m → Holdless (o.tasks t).place → (LateAt (o.tasks t).place → ⊥) → (MeetsAt (o.tasks t).place → ⊥)
-          → Inv K p s (makes o len m t (ended_entry (o.tasks t).regs (Making (primary (suc o.shape.n)) r len 0)))
+          → Inv K p s (makes o len m t (ended_entry (o.tasks t).regs (pending_with (primary (suc o.shape.n)) r len 0)))
       go nw free late meets =
-          let e : Task = ended_entry (o.tasks t).regs (Making (primary (suc o.shape.n)) r len 0) in
+          let e : Task = ended_entry (o.tasks t).regs (pending_with (primary (suc o.shape.n)) r len 0) in
           let d : EndedOk K (one_more o.shape len m) o.hd o.on (suc o.shape.n) e =
           ended_ok K (one_more o.shape len m) o.hd o.on (o.tasks t).regs (primary (suc o.shape.n)) r len 0 (v.entries t).eight regs (made nw.2) (omega arith) in
           makes_inv e nw free late meets d.mine (rw d.idle (d.unfull, d.nowhere)) (rw d.idle (λ z. z)) d.only d.nowhere
 
-      by : ((o.tasks t).place ≡ New r len m) ⊎ ((o.tasks t).place ≡ Asked r len m)
-          → Inv K p s (makes o len m t (ended_entry (o.tasks t).regs (Making (primary (suc o.shape.n)) r len 0)))
+      by : ((o.tasks t).place ≡ New (wanted r len m)) ⊎ ((o.tasks t).place ≡ Asked (wanted r len m))
+          → Inv K p s (makes o len m t (ended_entry (o.tasks t).regs (pending_with (primary (suc o.shape.n)) r len 0)))
       by (inl pe) = go (rw pe at (v.places t)) (rw pe (λ a j z. z, λ a z. z)) (rw pe (λ z. z)) (rw pe (λ z. z))
       by (inr pe) = go (rw pe at (v.places t)).1 (rw pe (λ a j z. z, λ a z. z)) (rw pe (λ z. z)) (rw pe (λ z. z))

@@ -1,7 +1,7 @@
 -- What the steps make of the heap by objects: one setter for each kind of change, each with the entry that task t gets.
-use Rattle.std.specs.Prelude.{ℕ, suc, List, [], ◌∷◌, Bool, true, false, eqb}
+use Rattle.std.specs.Prelude.{ℕ, suc, List, [], ◌∷◌, Bool, true, false, eqb, Option}
 use Rattle.table.specs.declared.Primary.{Primary}
-use Rattle.table.specs.declared.Pending.{Pending}
+use Rattle.table.specs.declared.Making.{Making}
 use Rattle.table.specs.declared.Place.{Place}
 use Rattle.table.specs.declared.Task.{Task}
 use Rattle.machine.specs.Basics.{pick}
@@ -20,7 +20,7 @@ shape_of n len ptr fill wrote = record { n = n; len = len; ptr = ptr; fill = fil
 abbrev pub goes : Task → Place → Task
 goes e place = entry e.regs e.pending e.storing place
 
-abbrev pub goes_with : Task → Pending → Place → Task
+abbrev pub goes_with : Task → Option Making → Place → Task
 goes_with e pending place = entry e.regs pending e.storing place
 
 -- x on the stack, if it has a slot to copy

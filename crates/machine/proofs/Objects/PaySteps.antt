@@ -1,17 +1,17 @@
 -- The steps of a payment keep the invariant: take, read, put, release.
-use Rattle.std.specs.Prelude.{ℕ, zero, suc, ◌≤◌, ◌<◌, ◌≡◌, refl, ◌≢◌, ◌⊎◌, List, ◌∷◌, Bool, true, false, ltb, eqb}
+use Rattle.std.specs.Prelude.{ℕ, suc, ◌≤◌, ◌<◌, ◌≡◌, refl, ◌≢◌, ◌⊎◌, List, ◌∷◌, Bool, true, false, ltb, eqb}
 use Rattle.std.proofs.Common.{ap, sym, ◌∙◌, inl, inr, arith, ltb-true, lt-ltb, eqb-true}
 use Rattle.std.proofs.Math.Decide.{ℕ_discrete}
 use Rattle.std.proofs.lemmas.Bool.{eqb-false}
 use Rattle.table.specs.declared.Primary.{Primary}
+use Rattle.table.specs.declared.Operand.{Operand}
+use Rattle.table.specs.declared.Replica.{Replica}
 use Rattle.table.specs.declared.Operand.TheVariants.{Plain, Pointer}
-use Rattle.table.specs.declared.Copied.{Copied}
-use Rattle.table.specs.declared.Copied.TheVariants.{Same, Renamed}
 use Rattle.table.specs.declared.Then.TheVariants.{ToPut}
 use Rattle.table.specs.declared.Place.TheVariants.{Take, Read, Put, Release, Looking}
 use Rattle.table.specs.declared.Task.{Task}
 use Rattle.machine.specs.Basics.{pick}
-use Rattle.machine.specs.Words.{primary, replica, copied_word}
+use Rattle.machine.specs.Words.{primary, replica, copied_word, slot_at}
 use Rattle.machine.specs.Tasks.{holding_of}
 use Rattle.machine.specs.Look.{look_ahead}
 use Rattle.machine.specs.Objects.Base.{In}
@@ -35,10 +35,10 @@ take_ok {K} {sh} {g} {hd} {prim} {rep} {has} {stack} {Lt} x c t st k es e = reco
   out = λ y i q. rw es (inr i);
   into = λ y i q. into y q (rw es at i);
   out_y = λ i. absurd (d.once.0 i);
-  into_y = λ n w. let z : ◌≡◌ {A = ℕ} 0 1 = cc in clash z;
+  into_y = λ n w. clash cc;
   bound = λ p. (rw e at (k.bound x)) tt;
   unplaced = λ p. absurd p;
-  old = λ w. let z : ◌≡◌ {A = ℕ} (suc c) 0 = cc in absurd (omega arith);
+  old = λ w. clash cc;
   seen = λ p. tt;
   placed = λ p. tt;
   other = λ y j q. refl;
@@ -56,16 +56,16 @@ take_ok {K} {sh} {g} {hd} {prim} {rep} {has} {stack} {Lt} x c t st k es e = reco
     into y q (inr w) = w
 
 pub takes : {K : ℕ → Type 0} {p s : ℕ} (o : State) (t n x c : ℕ) (st : List ℕ) → Inv K p s o → t < p → (o.tasks t).place ≡ Take n
-    → o.stack ≡ x ∷ st → o.hd x ≡ count (suc c) → Inv K p s (heads o x (locked c t) st t (goes (o.tasks t) (Read n (primary x) c)))
+    → o.stack ≡ x ∷ st → o.hd x ≡ count (suc c) → Inv K p s (heads o x (locked c t) st t (goes (o.tasks t) (Read n (slot_at (primary x) c))))
 unfolding holding_of
-takes {K} {p} {s} o t n x c st v l ep es e = head_inv o t (Read n (primary x) c) v record {
+takes {K} {p} {s} o t n x c st v l ep es e = head_inv o t (Read n (slot_at (primary x) c)) v record {
   low = l;
   on = h.0;
   place = (h.0, h.1, upd_same o.hd x (locked c t));
-  lock = λ i u w. let z : ◌≡◌ {A = ℕ} 0 1 = cc in clash z;
-  claim = λ u w. let z : ◌≡◌ {A = ℕ} 0 1 = cc in clash z;
+  lock = λ i u w. clash cc;
+  claim = λ u w. clash cc;
   locks = λ i u w. let a : u ≡ t = cc in let b : c ≡ i = cc in (a, (refl, b));
-  claims = λ u w. let z : ◌≡◌ {A = ℕ} 0 1 = cc in clash z;
+  claims = λ u w. clash cc;
   jobs = λ y i d j. absurd (rw ep at j);
   owns = λ y d j. absurd (rw ep at j);
   meets = λ m. rw ep at m;
@@ -86,41 +86,37 @@ locked_sound {K} {p} {s} o t x i v on e l =
     let b : suc i ≤ o.snap.fill x = (rw e at (k.bound x)) tt in
     v.shapes.closed x i w.3 w.2 (omega (arith, k.older x)) l
 
-pub reads : {K : ℕ → Type 0} {p s : ℕ} (o : State) (t n : ℕ) (x : Primary) (i : ℕ) → Inv K p s o → t < p → (o.tasks t).place ≡ Read n x i
+pub reads : {K : ℕ → Type 0} {p s : ℕ} (o : State) (t n : ℕ) (x : Primary) (i : ℕ) → Inv K p s o → t < p → (o.tasks t).place ≡ Read n (slot_at x i)
     → Inv K p s (moves o t (goes (o.tasks t)
-    (look_ahead (pick (ltb i (o.shape.ptr x.0)) (Pointer (primary (o.prim x.0 i))) (Plain (o.prim x.0 i))) (ToPut n x i) (Put n x i))))
+    (look_ahead (pick (ltb i (o.shape.ptr x.0)) (Pointer (primary (o.prim x.0 i))) (Plain (o.prim x.0 i))) (ToPut n (slot_at x i)) (Put n (slot_at x i)))))
 unfolding holding_of
 reads {K} {p} {s} o t n x i v l ep = by (ltb i (o.shape.ptr x.0)) refl
   where
-    h : PlaceOk K s o.shape o.hd o.prim o.rep o.has (Meeting o.tasks) o.on t (o.tasks t) (Read n x i)
-    h = at_place_lem v t (Read n x i) ep
+    h : PlaceOk K s o.shape o.hd o.prim o.rep o.has (Meeting o.tasks) o.on t (o.tasks t) (Read n (slot_at x i))
+    h = at_place_lem v t (Read n (slot_at x i)) ep
 
     aim : i < o.shape.ptr x.0 → Sound K o.shape (o.prim x.0 i)
     aim m = locked_sound o t x.0 i v h.0 h.2 m
 
     to : (c : Bool) → eqb (o.prim x.0 i) 0 ≡ c → ltb i (o.shape.ptr x.0) ≡ true
-        → Inv K p s (moves o t (goes (o.tasks t) (pick c (Put n x i (Renamed (replica 0))) (Looking (primary (o.prim x.0 i)) (ToPut n x i)))))
+        → Inv K p s (moves o t (goes (o.tasks t) (pick c (Put n (slot_at x i) (Pointer (replica 0))) (Looking (primary (o.prim x.0 i)) (ToPut n (slot_at x i))))))
     to true z b =
         let q : o.prim x.0 i ≡ 0 = eqb-true (o.prim x.0 i) 0 z in
-        go_inv o t (Put n x i (Renamed (replica 0))) v l
+        go_inv o t (Put n (slot_at x i) (Pointer (replica 0))) v l
         (h.0, h.1, h.2, sym b, inl q, (rw q at (aim (ltb-true i (o.shape.ptr x.0) b)), rw v.shapes.nil tt)) (λ y j m. rw ep at m)
         (λ y m. rw ep at m) (λ m. rw ep at m) (λ m. rw ep at m) (λ m. absurd m)
     to false z b =
         let q : o.prim x.0 i ≢ 0 = eqb-false (o.prim x.0 i) 0 z in
         let m : i < o.shape.ptr x.0 = ltb-true i (o.shape.ptr x.0) b in
-        go_inv o t (Looking (primary (o.prim x.0 i)) (ToPut n x i)) v l
-        (h.0, above (o.prim x.0 i) q, aim m, (h.1, h.2, m, inl refl)) (λ y j m. rw ep at m)
+        go_inv o t (Looking (primary (o.prim x.0 i)) (ToPut n (slot_at x i))) v l
+        (h.0, omega (arith, q), aim m, (h.1, h.2, m, inl refl)) (λ y j m. rw ep at m)
         (λ y m. rw ep at m) (λ m. rw ep at m) (λ m. rw ep at m) (λ m. absurd m)
-      where
-        above : (a : ℕ) → a ≢ 0 → 0 < a
-        above zero q = absurd (q refl)
-        above (suc a) q = omega arith
 
     by : (b : Bool) → ltb i (o.shape.ptr x.0) ≡ b
-        → Inv K p s (moves o t (goes (o.tasks t) (look_ahead (pick b (Pointer (primary (o.prim x.0 i))) (Plain (o.prim x.0 i))) (ToPut n x i) (Put n x i))))
+        → Inv K p s (moves o t (goes (o.tasks t) (look_ahead (pick b (Pointer (primary (o.prim x.0 i))) (Plain (o.prim x.0 i))) (ToPut n (slot_at x i)) (Put n (slot_at x i)))))
     by true b = to (eqb (o.prim x.0 i) 0) refl b
     by false b =
-        go_inv o t (Put n x i (Same (o.prim x.0 i))) v l (h.0, h.1, h.2, sym b, inl refl, tt) (λ y j m. rw ep at m) (λ y m. rw ep at m)
+        go_inv o t (Put n (slot_at x i) (Plain (o.prim x.0 i))) v l (h.0, h.1, h.2, sym b, inl refl, tt) (λ y j m. rw ep at m) (λ y m. rw ep at m)
         (λ m. rw ep at m) (λ m. rw ep at m) (λ m. absurd m)
 
 -- ---- put: the locked slot of the replica is written
@@ -153,12 +149,12 @@ put_colours {K} {sh} {g} {hd} {prim} {rep} {has} {stack} {Lt} x i t w c e f = re
 }
 
 -- a value for a pointer slot leads to what is placed and made
-copied_placed : (K : ℕ → Type 0) (sh : Shape) (hd : ℕ → Hd) (c : Copied) → is_renamed c ≡ true → SoundCopied K sh hd c → IsPlaced (hd (copied_word c)) × (copied_word c ≤ sh.n)
-copied_placed K sh hd (Same w) e h = off_on e
-copied_placed K sh hd (Renamed r) e h = (h.1, h.0.1)
+copied_placed : (K : ℕ → Type 0) (sh : Shape) (hd : ℕ → Hd) (c : Operand Replica) → is_renamed c ≡ true → SoundCopied K sh hd c → IsPlaced (hd (copied_word c)) × (copied_word c ≤ sh.n)
+copied_placed K sh hd (Plain w) e h = off_on e
+copied_placed K sh hd (Pointer r) e h = (h.1, h.0.1)
 
-pub puts : {K : ℕ → Type 0} {p s : ℕ} (o : State) (t n : ℕ) (x : Primary) (i : ℕ) (c : Copied) → Inv K p s o → t < p → (o.tasks t).place ≡ Put n x i c
-    → Inv K p s (copies o x.0 i (copied_word c) t (goes (o.tasks t) (Release n x i)))
+pub puts : {K : ℕ → Type 0} {p s : ℕ} (o : State) (t n : ℕ) (x : Primary) (i : ℕ) (c : Operand Replica) → Inv K p s o → t < p → (o.tasks t).place ≡ Put n (slot_at x i) c
+    → Inv K p s (copies o x.0 i (copied_word c) t (goes (o.tasks t) (Release n (slot_at x i))))
 unfolding holding_of
 puts {K} {p} {s} o t n x i c v l ep = task_inv v record {
   low = l;
@@ -176,10 +172,10 @@ puts {K} {p} {s} o t n x i c v l ep = task_inv v record {
 } v.shapes (rw h.0 colours)
   where
     e' : Task
-    e' = goes (o.tasks t) (Release n x i)
+    e' = goes (o.tasks t) (Release n (slot_at x i))
 
-    h : PlaceOk K s o.shape o.hd o.prim o.rep o.has (Meeting o.tasks) o.on t (o.tasks t) (Put n x i c)
-    h = at_place_lem v t (Put n x i c) ep
+    h : PlaceOk K s o.shape o.hd o.prim o.rep o.has (Meeting o.tasks) o.on t (o.tasks t) (Put n (slot_at x i) c)
+    h = at_place_lem v t (Put n (slot_at x i) c) ep
 
     meets : (y j : ℕ) → Meeting o.tasks y j → Meeting (upd o.tasks t e') y j
     meets y j = meeting_after o.tasks t e' y j (λ m. absurd (rw ep at m.1))
@@ -236,7 +232,7 @@ release_ok {K} {sh} {g} {hd} {prim} {rep} {has} {stack} {Lt} x i t c m e w same 
   into_y = push_into i x stack;
   bound = λ p. let b : suc i ≤ g.fill x = (rw e at (c.bound x)) tt in omega arith;
   unplaced = λ p. absurd p;
-  old = λ w. let z : ◌≡◌ {A = ℕ} 0 1 = cc in clash z;
+  old = λ w. clash cc;
   seen = λ p. tt;
   placed = λ p. tt;
   other = λ y j q. refl;
@@ -266,7 +262,7 @@ release_ok {K} {sh} {g} {hd} {prim} {rep} {has} {stack} {Lt} x i t c m e w same 
     sn j n l q z (yes r) = inl (placed_seen (hd (g.slots x j)) (rw r (seen same (rw r at n) (rw r at q) (rw r at z))))
     sn j n l q z (no r) = inr (omega arith)
 
-pub releases : {K : ℕ → Type 0} {p s : ℕ} (o : State) (t n : ℕ) (x : Primary) (i m : ℕ) → Inv K p s o → t < p → (o.tasks t).place ≡ Release n x i → 0 < m
+pub releases : {K : ℕ → Type 0} {p s : ℕ} (o : State) (t n : ℕ) (x : Primary) (i m : ℕ) → Inv K p s o → t < p → (o.tasks t).place ≡ Release n (slot_at x i) → 0 < m
     → Inv K p s (heads o x.0 (count i) (push i x.0 o.stack) t (goes (o.tasks t) (Take m)))
 unfolding holding_of
 releases {K} {p} {s} o t n x i m v l ep z = head_inv o t (Take m) v record {
@@ -274,9 +270,9 @@ releases {K} {p} {s} o t n x i m v l ep z = head_inv o t (Take m) v record {
   on = h.0;
   place = (h.0, z);
   lock = λ j u w. cc;
-  claim = λ u w. let z : ◌≡◌ {A = ℕ} 0 1 = cc in clash z;
-  locks = λ j u w. let z : ◌≡◌ {A = ℕ} 0 1 = cc in clash z;
-  claims = λ u w. let z : ◌≡◌ {A = ℕ} 0 1 = cc in clash z;
+  claim = λ u w. clash cc;
+  locks = λ j u w. clash cc;
+  claims = λ u w. clash cc;
   jobs = λ y j d w. absurd (d (sym (rw ep at w).0));
   owns = λ y d w. absurd (rw ep at w);
   meets = λ m. rw ep at m;
@@ -284,8 +280,8 @@ releases {K} {p} {s} o t n x i m v l ep z = head_inv o t (Take m) v record {
   later = λ m. absurd m;
 } (release_ok x.0 i t (rw h.0 at v.mode) (made.1, made.2, made.3) h.2 h.3 (same h.4))
   where
-    h : PlaceOk K s o.shape o.hd o.prim o.rep o.has (Meeting o.tasks) o.on t (o.tasks t) (Release n x i)
-    h = at_place_lem v t (Release n x i) ep
+    h : PlaceOk K s o.shape o.hd o.prim o.rep o.has (Meeting o.tasks) o.on t (o.tasks t) (Release n (slot_at x i))
+    h = at_place_lem v t (Release n (slot_at x i)) ep
 
     made : (t < p) × (0 < x.0) × (x.0 ≤ o.shape.n) × K x.0 × HasJob (o.tasks t) x.0 i
     made = v.owners.locker x.0 i t h.2

@@ -10,7 +10,7 @@ use Rattle.machine.proofs.Objects.Inv.{Sound, Shapes, Colours, EntryOk, PlaceOk,
 use Rattle.machine.proofs.Objects.Ops.{state, goes, moves}
 use Rattle.machine.proofs.Objects.Late.{late_after, late_before, meeting_after}
 use Rattle.machine.proofs.Objects.Keep.{Keep, keep_entry, keep_place}
-use Rattle.machine.proofs.Objects.MoveLaws.{late_colours}
+use Rattle.machine.proofs.Objects.MoveLaws.{late_colours, or_right}
 
 abbrev pub Elsewhere : ℕ → ℕ → ℕ → ℕ → Type 0
 Elsewhere x i a j = (a ≡ x) × (j ≡ i) → ⊥
@@ -216,18 +216,14 @@ moves_inv {o = o} t e v m mt eo po w = join t e v v.shapes m (λ x z. z) eo po w
   claim = λ a z. z;
   lock = λ a j z. z;
   slots = λ a j z. refl;
-  read = λ a j c z. or (mt u a j q z);
-  put = λ a j z. or (mt u a j q z);
+  read = λ a j c z. or_right (mt u a j q z);
+  put = λ a j z. or_right (mt u a j q z);
   written = λ a j z r. r;
   store = λ a j z. refl;
   fill = λ a z l. refl;
   wrote = λ a z l. refl;
   next = λ a z l. refl;
 })
-  where
-    or : {A B C : Type 0} → (B → C) → A ⊎ B → A ⊎ C
-    or f (inl a) = inl a
-    or f (inr b) = inr (f b)
 
 -- so, if no Store of the task is late before or after
 pub quiet_inv : {K : ℕ → Type 0} {p s : ℕ} {o : State} (t : ℕ) (e : Task) → Inv K p s o

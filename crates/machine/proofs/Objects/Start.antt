@@ -21,11 +21,11 @@ nil_root (suc n) (suc r) = nil_root n r
 
 unlocked : (x i t : ℕ) → upd (λ x. white) 0 (count 0) x ≡ locked i t → ⊥
 unlocked x i t =
-    upd_all (λ a h. h ≡ locked i t → ⊥) (λ x. white) 0 (count 0) (λ e. let z : ◌≡◌ {A = ℕ} 0 1 = cc in clash z) (λ a q e. let z : ◌≡◌ {A = ℕ} 0 1 = cc in clash z) x
+    upd_all (λ a h. h ≡ locked i t → ⊥) (λ x. white) 0 (count 0) (λ e. clash cc) (λ a q e. clash cc) x
 
 unclaimed : (x t : ℕ) → upd (λ x. white) 0 (count 0) x ≡ claimed t → ⊥
 unclaimed x t =
-    upd_all (λ a h. h ≡ claimed t → ⊥) (λ x. white) 0 (count 0) (λ e. let z : ◌≡◌ {A = ℕ} 0 1 = cc in clash z) (λ a q e. let z : ◌≡◌ {A = ℕ} 0 1 = cc in clash z) x
+    upd_all (λ a h. h ≡ claimed t → ⊥) (λ x. white) 0 (count 0) (λ e. clash cc) (λ a q e. clash cc) x
 
 nil_sound : (g : Snapshot) (r : ℕ) → Sound (λ x. Unit {0}) (start g).shape (root (replicate 8 nil) r)
 nil_sound g r = (tt, omega (arith, nil_root 8 r), refl)

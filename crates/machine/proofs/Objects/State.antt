@@ -1,13 +1,12 @@
 -- The heap by objects: every object ever made has a number from 1 on, and nil is 0. Nothing here has an address.
 -- Task entries are those of the table, with an object's number where the table has an address.
-use Rattle.std.specs.Prelude.{ℕ, suc, ◌≡◌, List, Bool, true, false, get_or}
+use Rattle.std.specs.Prelude.{ℕ, suc, ◌≡◌, List, Bool, true, false, get_or, Option, Some, None}
 use Rattle.table.specs.declared.Primary.{Primary}
-use Rattle.table.specs.declared.Copied.{Copied}
-use Rattle.table.specs.declared.Copied.TheVariants.{Same, Renamed}
-use Rattle.table.specs.declared.Pending.{Pending}
-use Rattle.table.specs.declared.Pending.TheVariants.{Nothing, Making}
-use Rattle.table.specs.declared.Storing.{Storing}
-use Rattle.table.specs.declared.Storing.TheVariants.{Nowhere, Slot}
+use Rattle.table.specs.declared.Making.{Making}
+use Rattle.table.specs.declared.Slot.{Slot}
+use Rattle.table.specs.declared.Operand.{Operand}
+use Rattle.table.specs.declared.Replica.{Replica}
+use Rattle.table.specs.declared.Operand.TheVariants.{Plain, Pointer}
 use Rattle.table.specs.declared.Then.{Then}
 use Rattle.table.specs.declared.Then.TheVariants.{ToWrite, ToStoreCopy, ToFillCopy, ToPut}
 use Rattle.table.specs.declared.Place.{Place}
@@ -92,40 +91,40 @@ owes (locked i t) = suc i
 abbrev pub root : List Primary → ℕ → ℕ
 root ps r = (get_or ps r nil).0
 
-abbrev pub pending_is : Pending → ℕ
-pending_is Nothing = 0
-pending_is (Making x r len f) = x.0
+abbrev pub pending_is : Option Making → ℕ
+pending_is None = 0
+pending_is (Some d) = d.at.0
 
 -- of the pending object; of the object and slot of the unfinished Store
-abbrev pub OfPending : Pending → (ℕ → Type 0) → Type 0
-OfPending Nothing P = ⊥
-OfPending (Making x r len f) P = P x.0
+abbrev pub OfPending : Option Making → (ℕ → Type 0) → Type 0
+OfPending None P = ⊥
+OfPending (Some d) P = P d.at.0
 
-abbrev pub OfStore : Storing → (ℕ → ℕ → Type 0) → Type 0
-OfStore Nowhere P = ⊥
-OfStore (Slot x i) P = P x.0 i
+abbrev pub OfStore : Option Slot → (ℕ → ℕ → Type 0) → Type 0
+OfStore None P = ⊥
+OfStore (Some y) P = P y.object.0 y.index
 
 -- a pointer, and not a plain word
-abbrev pub is_renamed : Copied → Bool
-is_renamed (Same w) = false
-is_renamed (Renamed r) = true
+abbrev pub is_renamed : Operand Replica → Bool
+is_renamed (Plain w) = false
+is_renamed (Pointer r) = true
 
 -- a job on (x, i); a claim on x
 abbrev pub JobIn : Holding → ℕ → ℕ → Type 0
 JobIn Rests x i = ⊥
 JobIn Asks x i = ⊥
 JobIn Free x i = ⊥
-JobIn (Job y j) x i = (y.0 ≡ x) × (j ≡ i)
+JobIn (Job job) x i = (job.object.0 ≡ x) × (job.index ≡ i)
 JobIn (Claim p) x i = ⊥
-JobIn (Both p y j) x i = (y.0 ≡ x) × (j ≡ i)
+JobIn (Both p job) x i = (job.object.0 ≡ x) × (job.index ≡ i)
 
 abbrev pub ClaimIn : Holding → ℕ → Type 0
 ClaimIn Rests x = ⊥
 ClaimIn Asks x = ⊥
 ClaimIn Free x = ⊥
-ClaimIn (Job y j) x = ⊥
+ClaimIn (Job job) x = ⊥
 ClaimIn (Claim p) x = p.0 ≡ x
-ClaimIn (Both p y j) x = p.0 ≡ x
+ClaimIn (Both p job) x = p.0 ≡ x
 
 abbrev pub HasJob : Task → ℕ → ℕ → Type 0
 HasJob e x i = JobIn (holding_of e.place) x i
@@ -138,24 +137,24 @@ abbrev pub jobs_in : Holding → ℕ
 jobs_in Rests = 0
 jobs_in Asks = 0
 jobs_in Free = 0
-jobs_in (Job y j) = 1
+jobs_in (Job job) = 1
 jobs_in (Claim p) = 0
-jobs_in (Both p y j) = 1
+jobs_in (Both p job) = 1
 
 -- a Store whose primary is written and whose replica is not: at Meet; at Meet or behind it
 abbrev pub MeetsAt : Place → Type 0
 MeetsAt Idle = ⊥
-MeetsAt (New r len m) = ⊥
-MeetsAt (Asked r len m) = ⊥
+MeetsAt (New want) = ⊥
+MeetsAt (Asked want) = ⊥
 MeetsAt (FillWrite v) = ⊥
 MeetsAt (FillCopy c) = ⊥
 MeetsAt (StoreWrite v) = ⊥
 MeetsAt (Meet v) = Unit {0}
 MeetsAt (StoreCopy c) = ⊥
 MeetsAt (Take n) = ⊥
-MeetsAt (Read n x i) = ⊥
-MeetsAt (Put n x i c) = ⊥
-MeetsAt (Release n x i) = ⊥
+MeetsAt (Read n job) = ⊥
+MeetsAt (Put n job c) = ⊥
+MeetsAt (Release n job) = ⊥
 MeetsAt (Looking p th) = ⊥
 MeetsAt (Placing p th) = ⊥
 
@@ -163,25 +162,25 @@ abbrev pub LateThen : Then → Type 0
 LateThen (ToWrite v) = ⊥
 LateThen ToStoreCopy = Unit {0}
 LateThen ToFillCopy = ⊥
-LateThen (ToPut n x i) = ⊥
+LateThen (ToPut n job) = ⊥
 
 abbrev pub LateAt : Place → Type 0
 LateAt Idle = ⊥
-LateAt (New r len m) = ⊥
-LateAt (Asked r len m) = ⊥
+LateAt (New want) = ⊥
+LateAt (Asked want) = ⊥
 LateAt (FillWrite v) = ⊥
 LateAt (FillCopy c) = ⊥
 LateAt (StoreWrite v) = ⊥
 LateAt (Meet v) = Unit {0}
 LateAt (StoreCopy c) = Unit {0}
 LateAt (Take n) = ⊥
-LateAt (Read n x i) = ⊥
-LateAt (Put n x i c) = ⊥
-LateAt (Release n x i) = ⊥
+LateAt (Read n job) = ⊥
+LateAt (Put n job c) = ⊥
+LateAt (Release n job) = ⊥
 LateAt (Looking p th) = LateThen th
 LateAt (Placing p th) = LateThen th
 
-abbrev pub On : Storing → ℕ → ℕ → Type 0
+abbrev pub On : Option Slot → ℕ → ℕ → Type 0
 On s x j = OfStore s (λ y i. (y ≡ x) × (i ≡ j))
 
 -- some task's Store on (x, j) is at Meet; is late

@@ -1,5 +1,5 @@
 -- The steps of a Store keep the invariant: the primary's slot is written; meet; the replica's slot is written.
-use Rattle.std.specs.Prelude.{ℕ, zero, suc, ◌<◌, ◌≡◌, ◌≢◌, ◌⊎◌, Bool, false, eqb}
+use Rattle.std.specs.Prelude.{ℕ, ◌<◌, ◌≡◌, ◌≢◌, ◌⊎◌, Bool, false, eqb}
 use Rattle.std.proofs.Math.Path.{refl}
 use Rattle.std.proofs.Common.{ap, sym, ◌∙◌, arith, lt-ltb, ltb-true, eqb-true}
 use Rattle.std.proofs.Math.Logic.{inl, inr}
@@ -7,11 +7,10 @@ use Rattle.std.proofs.Math.Bool.{true}
 use Rattle.std.proofs.Math.Dec.{ltb}
 use Rattle.std.proofs.lemmas.Bool.{eqb-false}
 use Rattle.table.specs.declared.Primary.{Primary}
+use Rattle.machine.specs.Entries.{storing_on}
 use Rattle.table.specs.declared.Operand.{Operand}
+use Rattle.table.specs.declared.Replica.{Replica}
 use Rattle.table.specs.declared.Operand.TheVariants.{Plain, Pointer}
-use Rattle.table.specs.declared.Copied.{Copied}
-use Rattle.table.specs.declared.Copied.TheVariants.{Same, Renamed}
-use Rattle.table.specs.declared.Storing.TheVariants.{Slot}
 use Rattle.table.specs.declared.Then.TheVariants.{ToStoreCopy}
 use Rattle.table.specs.declared.Place.TheVariants.{StoreWrite, Meet, StoreCopy, Take, Looking}
 use Rattle.table.specs.declared.Task.{Task}
@@ -28,22 +27,21 @@ use Rattle.machine.proofs.Objects.Late.{late_after, late_before, meeting_after}
 use Rattle.machine.proofs.Objects.SlotLaws.{Elsewhere, slot_colours, slot_shapes, shape_same, slot_keep, owners_inv, goes_owners, goes_entry, late_mode, moves_inv, join}
 
 pub pos : (q : ℕ) → q ≢ 0 → 0 < q
-pos zero z = absurd (z refl)
-pos (suc q) z = omega arith
+pos q z = omega (arith, z)
 
 -- a value for a pointer slot is a pointer to a sound object
-pub pointer_sound : (K : ℕ → Type 0) (sh : Shape) (w : Operand) (i m : ℕ) → is_pointer w ≡ ltb i m → SoundOperand K sh w → i < m → Sound K sh (operand_word w)
+pub pointer_sound : (K : ℕ → Type 0) (sh : Shape) (w : Operand Primary) (i m : ℕ) → is_pointer w ≡ ltb i m → SoundOperand K sh w → i < m → Sound K sh (operand_word w)
 pointer_sound K sh (Plain u) i m e o l = off_on (e ∙ lt-ltb i m l)
 pointer_sound K sh (Pointer q) i m e o l = o
 
-pub renamed_sound : (K : ℕ → Type 0) (sh : Shape) (hd : ℕ → Hd) (c : Copied) (i m : ℕ) → is_renamed c ≡ ltb i m → SoundCopied K sh hd c → i < m
+pub renamed_sound : (K : ℕ → Type 0) (sh : Shape) (hd : ℕ → Hd) (c : Operand Replica) (i m : ℕ) → is_renamed c ≡ ltb i m → SoundCopied K sh hd c → i < m
     → Sound K sh (copied_word c) × IsPlaced (hd (copied_word c))
-renamed_sound K sh hd (Same u) i m e o l = off_on (e ∙ lt-ltb i m l)
-renamed_sound K sh hd (Renamed r) i m e o l = o
+renamed_sound K sh hd (Plain u) i m e o l = off_on (e ∙ lt-ltb i m l)
+renamed_sound K sh hd (Pointer r) i m e o l = o
 
-module _ {K : ℕ → Type 0} {p s : ℕ} {o : State} (v : Inv K p s o) (t : ℕ) (l : t < p) (x : Primary) (i : ℕ) (se : (o.tasks t).storing ≡ Slot x i) where
+module _ {K : ℕ → Type 0} {p s : ℕ} {o : State} (v : Inv K p s o) (t : ℕ) (l : t < p) (x : Primary) (i : ℕ) (se : (o.tasks t).storing ≡ storing_on x i) where
   -- the task's Store is on slot i of x, and nowhere else; no other task's is there; no slot still to fill is there
-  stored : StoringOk K o.shape (Slot x i)
+  stored : StoringOk K o.shape (storing_on x i)
   stored = rw se at (v.entries t).storing
 
   on_it : On (o.tasks t).storing x.0 i
@@ -58,7 +56,7 @@ module _ {K : ℕ → Type 0} {p s : ℕ} {o : State} (v : Inv K p s o) (t : ℕ
   not_next : o.shape.fill x.0 ≡ i → ⊥
   not_next z = omega (arith, stored.1.2, stored.2)
 
-  pub store_writes : o.on ≡ true → (w : Operand) → (o.tasks t).place ≡ StoreWrite w → Inv K p s (stores o x.0 i (operand_word w) t (goes (o.tasks t) (Meet w)))
+  pub store_writes : o.on ≡ true → (w : Operand Primary) → (o.tasks t).place ≡ StoreWrite w → Inv K p s (stores o x.0 i (operand_word w) t (goes (o.tasks t) (Meet w)))
   unfolding holding_of
   store_writes on w pe =
       join t e v
@@ -82,7 +80,7 @@ module _ {K : ℕ → Type 0} {p s : ℕ} {o : State} (v : Inv K p s o) (t : ℕ
       e : Task
       e = goes (o.tasks t) (Meet w)
 
-      place : OfStore (Slot x i) (λ x i. (is_pointer w ≡ ltb i (o.shape.ptr x)) × (o.on ≡ true → i < o.shape.ptr x → IsSeen (o.hd (o.prim x i))))
+      place : OfStore (storing_on x i) (λ x i. (is_pointer w ≡ ltb i (o.shape.ptr x)) × (o.on ≡ true → i < o.shape.ptr x → IsSeen (o.hd (o.prim x i))))
           × SoundOperand K o.shape w
       place = rw (pe, se) at (v.places t)
 
@@ -109,7 +107,7 @@ module _ {K : ℕ → Type 0} {p s : ℕ} {o : State} (v : Inv K p s o) (t : ℕ
       }
 
   -- the collector off: no header is locked, and the entry stays
-  pub store_writes_off : o.on ≡ false → (w : Operand) → (o.tasks t).place ≡ StoreWrite w → Inv K p s (stores o x.0 i (operand_word w) t (o.tasks t))
+  pub store_writes_off : o.on ≡ false → (w : Operand Primary) → (o.tasks t).place ≡ StoreWrite w → Inv K p s (stores o x.0 i (operand_word w) t (o.tasks t))
   unfolding holding_of
   store_writes_off off w pe =
       join t (o.tasks t) v
@@ -131,7 +129,7 @@ module _ {K : ℕ → Type 0} {p s : ℕ} {o : State} (v : Inv K p s o) (t : ℕ
         next = λ z m f. absurd (not_next f);
       })
     where
-      place : OfStore (Slot x i) (λ x i. (is_pointer w ≡ ltb i (o.shape.ptr x)) × (o.on ≡ true → i < o.shape.ptr x → IsSeen (o.hd (o.prim x i))))
+      place : OfStore (storing_on x i) (λ x i. (is_pointer w ≡ ltb i (o.shape.ptr x)) × (o.on ≡ true → i < o.shape.ptr x → IsSeen (o.hd (o.prim x i))))
           × SoundOperand K o.shape w
       place = rw (pe, se) at (v.places t)
 
@@ -139,10 +137,10 @@ module _ {K : ℕ → Type 0} {p s : ℕ} {o : State} (v : Inv K p s o) (t : ℕ
       white_all = rw off at v.mode
 
       unlocked : (u : ℕ) → o.hd x.0 ≡ locked i u → ⊥
-      unlocked u z = let r : o.hd x.0 ≡ white = white_all.all x.0 stored.0 in let d : ◌≡◌ {A = ℕ} 0 1 = cc in clash d
+      unlocked u z = let r : o.hd x.0 ≡ white = white_all.all x.0 stored.0 in clash cc
 
   -- no replica yet: nothing to meet
-  pub meets_white : (w : Operand) → (o.tasks t).place ≡ Meet w → o.hd x.0 ≡ white → (k : ℕ) → 0 < k → Inv K p s (moves o t (goes (o.tasks t) (Take k)))
+  pub meets_white : (w : Operand Primary) → (o.tasks t).place ≡ Meet w → o.hd x.0 ≡ white → (k : ℕ) → 0 < k → Inv K p s (moves o t (goes (o.tasks t) (Take k)))
   unfolding holding_of
   meets_white w pe he k kp =
       moves_inv t e v (rw on colours)
@@ -187,14 +185,14 @@ module _ {K : ℕ → Type 0} {p s : ℕ} {o : State} (v : Inv K p s o) (t : ℕ
       }
 
   -- a Store on its way to the replica's slot
-  ahead : (w : Operand) (e : Task) (Mt : ℕ → ℕ → Type 0) → e.storing ≡ Slot x i → o.on ≡ true → is_pointer w ≡ ltb i (o.shape.ptr x.0)
+  ahead : (w : Operand Primary) (e : Task) (Mt : ℕ → ℕ → Type 0) → e.storing ≡ storing_on x i → o.on ≡ true → is_pointer w ≡ ltb i (o.shape.ptr x.0)
       → o.prim x.0 i ≡ operand_word w → SoundOperand K o.shape w → IsPlaced (o.hd x.0)
       → PlaceOk K s o.shape o.hd o.prim o.rep o.has Mt o.on t e (look_ahead w ToStoreCopy StoreCopy)
   ahead (Plain u) e Mt z on b f so h = (on, rw z (b, f, h), tt)
   ahead (Pointer q) e Mt z on b f so h = by (eqb q.0 0) refl
     where
       by : (c : Bool) → eqb q.0 0 ≡ c
-          → PlaceOk K s o.shape o.hd o.prim o.rep o.has Mt o.on t e (pick c (StoreCopy (Renamed (replica 0))) (Looking q ToStoreCopy))
+          → PlaceOk K s o.shape o.hd o.prim o.rep o.has Mt o.on t e (pick c (StoreCopy (Pointer (replica 0))) (Looking q ToStoreCopy))
       by true d =
           let n : q.0 ≡ 0 = eqb-true q.0 0 d in
           (on, rw z (b, f ∙ n, h), (rw n at so, rw v.shapes.nil tt))
@@ -202,16 +200,16 @@ module _ {K : ℕ → Type 0} {p s : ℕ} {o : State} (v : Inv K p s o) (t : ℕ
           let n : q.0 ≢ 0 = eqb-false q.0 0 d in
           (on, pos q.0 n, so, rw z (ltb-true i (o.shape.ptr x.0) (sym b), f, h))
 
-  ahead_late : (w : Operand) → LateAt (look_ahead w ToStoreCopy StoreCopy)
+  ahead_late : (w : Operand Primary) → LateAt (look_ahead w ToStoreCopy StoreCopy)
   ahead_late (Plain u) = tt
   ahead_late (Pointer q) = by (eqb q.0 0)
     where
-      by : (c : Bool) → LateAt (pick c (StoreCopy (Renamed (replica 0))) (Looking q ToStoreCopy))
+      by : (c : Bool) → LateAt (pick c (StoreCopy (Pointer (replica 0))) (Looking q ToStoreCopy))
       by true = tt
       by false = tt
 
   -- a replica whose slot i is not locked
-  pub meets_goes : (w : Operand) → (o.tasks t).place ≡ Meet w → IsPlaced (o.hd x.0) → ((u : ℕ) → o.hd x.0 ≡ locked i u → ⊥)
+  pub meets_goes : (w : Operand Primary) → (o.tasks t).place ≡ Meet w → IsPlaced (o.hd x.0) → ((u : ℕ) → o.hd x.0 ≡ locked i u → ⊥)
       → Inv K p s (moves o t (goes (o.tasks t) (look_ahead w ToStoreCopy StoreCopy)))
   unfolding holding_of
   meets_goes w pe h f =
@@ -225,14 +223,14 @@ module _ {K : ℕ → Type 0} {p s : ℕ} {o : State} (v : Inv K p s o) (t : ℕ
       e : Task
       e = goes (o.tasks t) (look_ahead w ToStoreCopy StoreCopy)
 
-      place : (o.on ≡ true) × OfStore (Slot x i) (λ x i. (is_pointer w ≡ ltb i (o.shape.ptr x)) × (o.prim x i ≡ operand_word w)) × SoundOperand K o.shape w
+      place : (o.on ≡ true) × OfStore (storing_on x i) (λ x i. (is_pointer w ≡ ltb i (o.shape.ptr x)) × (o.prim x i ≡ operand_word w)) × SoundOperand K o.shape w
       place = rw (pe, se) at (v.places t)
 
       unmet : (u a j : ℕ) → o.hd a ≡ locked j u → On (o.tasks t).storing a j → ⊥
       unmet u a j z r = let q : (x.0 ≡ a) × (i ≡ j) = rw se at r in f u (ap o.hd q.0 ∙ z ∙ ap (λ (n : ℕ). locked n u) (sym q.1))
 
   -- the replica's slot written with what the primary's has
-  pub store_copies : (c : Copied) → (o.tasks t).place ≡ StoreCopy c → (k : ℕ) → 0 < k → Inv K p s (copies o x.0 i (copied_word c) t (goes (o.tasks t) (Take k)))
+  pub store_copies : (c : Operand Replica) → (o.tasks t).place ≡ StoreCopy c → (k : ℕ) → 0 < k → Inv K p s (copies o x.0 i (copied_word c) t (goes (o.tasks t) (Take k)))
   unfolding holding_of
   store_copies c pe k kp =
       join t e v v.shapes (rw place.0 colours) (λ a z. z) (goes_entry (Take k) (v.entries t)) (place.0, kp)
@@ -250,7 +248,7 @@ module _ {K : ℕ → Type 0} {p s : ℕ} {o : State} (v : Inv K p s o) (t : ℕ
       e : Task
       e = goes (o.tasks t) (Take k)
 
-      place : (o.on ≡ true) × OfStore (Slot x i) (λ x i. (is_renamed c ≡ ltb i (o.shape.ptr x)) × (o.prim x i ≡ copied_word c) × IsPlaced (o.hd x)) × SoundCopied K o.shape o.hd c
+      place : (o.on ≡ true) × OfStore (storing_on x i) (λ x i. (is_renamed c ≡ ltb i (o.shape.ptr x)) × (o.prim x i ≡ copied_word c) × IsPlaced (o.hd x)) × SoundCopied K o.shape o.hd c
       place = rw (pe, se) at (v.places t)
 
       same : slot o.rep x.0 i (copied_word c) x.0 i ≡ o.prim x.0 i

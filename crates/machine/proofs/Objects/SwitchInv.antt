@@ -1,10 +1,8 @@
 -- The switch-over by objects: it keeps the invariant, and every replica is then the same as its primary.
-use Rattle.std.specs.Prelude.{ℕ, ◌≡◌, refl, false}
+use Rattle.std.specs.Prelude.{ℕ, ◌≡◌, refl, false, Option, Some, None}
 use Rattle.std.proofs.Common.{arith}
-use Rattle.table.specs.declared.Pending.{Pending}
-use Rattle.table.specs.declared.Pending.TheVariants.{Nothing, Making}
-use Rattle.table.specs.declared.Storing.{Storing}
-use Rattle.table.specs.declared.Storing.TheVariants.{Nowhere, Slot}
+use Rattle.table.specs.declared.Making.{Making}
+use Rattle.table.specs.declared.Slot.{Slot}
 use Rattle.table.specs.declared.Place.TheVariants.{Idle}
 use Rattle.machine.proofs.Objects.Base.{clash, off_on, upd, upd_same, upd_other, upd_all}
 use Rattle.machine.proofs.Objects.State.{Hd, white, claimed, count, locked, State, Late}
@@ -51,20 +49,20 @@ switch_inv {K} {p} {s} {o} v idle = record {
     hd' : ℕ → Hd
     hd' = upd (λ x. white) 0 (count 0)
 
-    pending : (q : Pending) → PendingOk K o.shape o.hd o.on q → PendingOk K (switches o).shape hd' false q
-    pending Nothing w = tt
-    pending (Making x r len f) w = (w.0, w.1, w.2, w.3, w.4, w.5, λ e. off_on e)
+    pending : (q : Option Making) → PendingOk K o.shape o.hd o.on q → PendingOk K (switches o).shape hd' false q
+    pending None w = tt
+    pending (Some d) w = (w.0, w.1, w.2, w.3, w.4, w.5, λ e. off_on e)
 
-    storing : (q : Storing) → StoringOk K o.shape q → StoringOk K (switches o).shape q
-    storing Nowhere w = tt
-    storing (Slot x i) w = w
+    storing : (q : Option Slot) → StoringOk K o.shape q → StoringOk K (switches o).shape q
+    storing None w = tt
+    storing (Some y) w = w
 
     unlocked : (i t x : ℕ) → hd' x ≡ locked i t → ⊥
     unlocked i t =
-        upd_all (λ x h. h ≡ locked i t → ⊥) (λ x. white) 0 (count 0) (λ e. let z : ◌≡◌ {A = ℕ} 0 1 = cc in clash z)
-        (λ x q e. let z : ◌≡◌ {A = ℕ} 0 1 = cc in clash z)
+        upd_all (λ x h. h ≡ locked i t → ⊥) (λ x. white) 0 (count 0) (λ e. clash cc)
+        (λ x q e. clash cc)
 
     unclaimed : (t x : ℕ) → hd' x ≡ claimed t → ⊥
     unclaimed t =
-        upd_all (λ x h. h ≡ claimed t → ⊥) (λ x. white) 0 (count 0) (λ e. let z : ◌≡◌ {A = ℕ} 0 1 = cc in clash z)
-        (λ x q e. let z : ◌≡◌ {A = ℕ} 0 1 = cc in clash z)
+        upd_all (λ x h. h ≡ claimed t → ⊥) (λ x. white) 0 (count 0) (λ e. clash cc)
+        (λ x q e. clash cc)

@@ -10,22 +10,22 @@ abbrev pub waits_then : Then → ℕ
 waits_then (ToWrite v) = 1
 waits_then ToStoreCopy = 0
 waits_then ToFillCopy = 0
-waits_then (ToPut n x i) = 0
+waits_then (ToPut n job) = 0
 
 -- 1 for a task whose Store is begun and not yet written
 abbrev pub waits : Place → ℕ
 waits Idle = 0
-waits (New r len m) = 0
-waits (Asked r len m) = 0
+waits (New want) = 0
+waits (Asked want) = 0
 waits (FillWrite v) = 0
 waits (FillCopy c) = 0
 waits (StoreWrite v) = 1
 waits (Meet v) = 0
 waits (StoreCopy c) = 0
 waits (Take n) = 0
-waits (Read n x i) = 0
-waits (Put n x i c) = 0
-waits (Release n x i) = 0
+waits (Read n job) = 0
+waits (Put n job c) = 0
+waits (Release n job) = 0
 waits (Looking p next) = waits_then next
 waits (Placing p next) = waits_then next
 

@@ -1,12 +1,11 @@
 -- Whom a step waits for, and why: the claimer of what it looks at, the holder of its Store's own slot, a task with a job or a
 -- claim while the stack is empty, a task that keeps a flip from being made for want of room.
-use Rattle.std.specs.Prelude.{ℕ, ◌+◌, ◌-◌, ◌≤◌, ◌<◌, ◌≢◌, ◌⊎◌, List, get_or}
+use Rattle.std.specs.Prelude.{ℕ, ◌+◌, ◌-◌, ◌≤◌, ◌<◌, ◌≢◌, ◌⊎◌, List, get_or, Option, Some, None}
 use Rattle.std.proofs.Math.Path.{◌≡◌}
 use Rattle.std.proofs.Math.Bool.{true, false}
 use Rattle.table.specs.declared.Primary.{Primary}
 use Rattle.table.specs.declared.Replica.{Replica}
-use Rattle.table.specs.declared.Storing.{Storing}
-use Rattle.table.specs.declared.Storing.TheVariants.{Nowhere, Slot}
+use Rattle.table.specs.declared.Slot.{Slot}
 use Rattle.table.specs.declared.Place.{Place}
 use Rattle.table.specs.declared.Place.TheVariants.{Idle, New, Asked, FillWrite, FillCopy, StoreWrite, Meet, StoreCopy, Take, Read, Put, Release, Looking, Placing}
 use Rattle.table.specs.declared.Table.{Table}
@@ -30,9 +29,9 @@ abbrev pub LockedBy : Table → List ℕ → Primary → ℕ → ℕ → Type 0
 LockedBy t ws x i q =
     (r : Replica) × (len : ℕ) × (look_of ws t.limits.s x ≡ Forwarded r len) × (copying_of len (get_or ws (r.0 - 1) 0) ≡ Locked i) × (job_is x i (holds t q) ≡ true)
 
-abbrev pub MetBy : Table → List ℕ → ℕ → Storing → Type 0
-MetBy t ws q Nowhere = ⊥
-MetBy t ws q (Slot x i) = ClaimedBy t ws x q ⊎ LockedBy t ws x i q
+abbrev pub MetBy : Table → List ℕ → ℕ → Option Slot → Type 0
+MetBy t ws q None = ⊥
+MetBy t ws q (Some y) = ClaimedBy t ws y.object q ⊎ LockedBy t ws y.object y.index q
 
 -- a New of this length finds too little room, and q, another task, is neither idle nor asking
 abbrev pub KeptBy : Table → ℕ → ℕ → ℕ → Type 0
@@ -41,16 +40,16 @@ KeptBy t len i q = (t.on ≡ false) × (end_of t.upper t.limits.h - t.marks.a < 
 -- why task i, at this place, waits for q
 abbrev pub WaitsFor : Table → List ℕ → ℕ → ℕ → Place → Type 0
 WaitsFor t ws i q Idle = ⊥
-WaitsFor t ws i q (New r len m) = KeptBy t len i q
-WaitsFor t ws i q (Asked r len m) = KeptBy t len i q
+WaitsFor t ws i q (New want) = KeptBy t want.len i q
+WaitsFor t ws i q (Asked want) = KeptBy t want.len i q
 WaitsFor t ws i q (FillWrite v) = ⊥
 WaitsFor t ws i q (FillCopy c) = ⊥
 WaitsFor t ws i q (StoreWrite v) = ⊥
 WaitsFor t ws i q (Meet v) = MetBy t ws q (task_at t i).storing
 WaitsFor t ws i q (StoreCopy c) = ⊥
 WaitsFor t ws i q (Take n) = (end_of t.upper t.limits.h ≤ t.marks.top) × (q ≢ i) × (works_of (holds t q) ≡ true)
-WaitsFor t ws i q (Read n x k) = ⊥
-WaitsFor t ws i q (Put n x k c) = ⊥
-WaitsFor t ws i q (Release n x k) = ⊥
+WaitsFor t ws i q (Read n job) = ⊥
+WaitsFor t ws i q (Put n job c) = ⊥
+WaitsFor t ws i q (Release n job) = ⊥
 WaitsFor t ws i q (Looking p th) = ClaimedBy t ws p q
 WaitsFor t ws i q (Placing p th) = ⊥

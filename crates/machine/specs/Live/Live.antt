@@ -1,9 +1,7 @@
 -- The objects that are live at a moment, each once, found by a search; the words they take, and the slots filled of each.
-use Rattle.std.specs.Prelude.{ℕ, zero, suc, ◌+◌, ◌-◌, ◌*◌, min, List, [], ◌∷◌, ◌++◌, Bool, true, false, length, get_or, eqb}
-use Rattle.table.specs.declared.Object.{Object}
-use Rattle.table.specs.declared.Object.TheVariants.{Whole, Torn}
-use Rattle.table.specs.declared.Pending.{Pending}
-use Rattle.table.specs.declared.Pending.TheVariants.{Nothing, Making}
+use Rattle.std.specs.Prelude.{ℕ, zero, suc, ◌+◌, ◌-◌, ◌*◌, min, List, [], ◌∷◌, ◌++◌, Bool, true, false, length, get_or, eqb, Option, Some, None}
+use Rattle.table.specs.declared.Descriptor.{Descriptor}
+use Rattle.table.specs.declared.Making.{Making}
 use Rattle.table.specs.declared.Task.{Task}
 use Rattle.table.specs.declared.Table.{Table}
 use Rattle.machine.specs.Basics.{pick}
@@ -44,25 +42,25 @@ abbrev pub slots_below : List ℕ → ℕ → ℕ → List ℕ
 slots_below ws p n = gather n (λ j. get_or ws (p + j) 0 ∷ [])
 
 -- the pointers in an object, and those in its first f slots
-abbrev pub pointers_of : List ℕ → ℕ → Object → List ℕ
-pointers_of ws p (Whole len m) = slots_below ws p m
-pointers_of ws p Torn = []
+abbrev pub pointers_of : List ℕ → ℕ → Option Descriptor → List ℕ
+pointers_of ws p (Some o) = slots_below ws p o.m
+pointers_of ws p None = []
 
-abbrev pub pointers_below : List ℕ → ℕ → ℕ → Object → List ℕ
-pointers_below ws p f (Whole len m) = slots_below ws p (min f m)
-pointers_below ws p f Torn = []
+abbrev pub pointers_below : List ℕ → ℕ → ℕ → Option Descriptor → List ℕ
+pointers_below ws p f (Some o) = slots_below ws p (min f o.m)
+pointers_below ws p f None = []
 
 abbrev pub pointers_at : Table → List ℕ → ℕ → List ℕ
 pointers_at t ws p = pointers_of ws p (object_of ws t.limits.s (primary p))
 
 -- those in the filled slots of a pending object
-abbrev pub filled_pointers : Table → List ℕ → Pending → List ℕ
-filled_pointers t ws Nothing = []
-filled_pointers t ws (Making p r len f) = pointers_below ws p.0 f (object_of ws t.limits.s p)
+abbrev pub filled_pointers : Table → List ℕ → Option Making → List ℕ
+filled_pointers t ws None = []
+filled_pointers t ws (Some d) = pointers_below ws d.at.0 d.filled (object_of ws t.limits.s d.at)
 
-abbrev pub pending_pointer : Pending → List ℕ
-pending_pointer Nothing = []
-pending_pointer (Making p r len f) = p.0 ∷ []
+abbrev pub pending_pointer : Option Making → List ℕ
+pending_pointer None = []
+pending_pointer (Some d) = d.at.0 ∷ []
 
 abbrev pub registers_of : Task → List ℕ
 registers_of e = gather 8 (λ r. (register e r).0 ∷ [])
@@ -100,9 +98,9 @@ unfoldable pub size_of : Table → List ℕ → ℕ
 size_of t ws = total (λ p. length_at ws p + 2) (live_of t ws)
 
 -- the slots filled of a pending object at p, or else the number given
-abbrev pub filled_or : ℕ → Pending → ℕ → ℕ
-filled_or p Nothing n = n
-filled_or p (Making q r len f) n = pick (eqb q.0 p) f n
+abbrev pub filled_or : ℕ → Option Making → ℕ → ℕ
+filled_or p None n = n
+filled_or p (Some d) n = pick (eqb d.at.0 p) d.filled n
 
 -- the same, over the first so many tasks
 unfoldable pub filled_among : Table → ℕ → ℕ → ℕ → ℕ

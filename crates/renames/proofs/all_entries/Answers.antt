@@ -1,23 +1,19 @@
 use Rattle.std.proofs.Common.{arith, rules}
-use Rattle.machine.specs.Entries.{nil, no_task}
-use Rattle.renames.proofs.Rows.{begins, goes_on, stops, ends, entry_good, entry_lost, entry_new}
+use Rattle.machine.specs.Entries.{no_task}
+use Rattle.entries.proofs.Arrays.{whole_row}
+use Rattle.renames.proofs.Rows.{begins, goes_on, stops, ends}
 use Rattle.renames.proofs.all_entries.Goals as goal
 
-pub tasks-init : goal.tasks-init
-tasks-init c = begins _ _ _ _ (search rules)
+pub loop-e-init : goal.loop-e-init
+loop-e-init c = begins _ _ _ _ (search rules)
 
-pub loop-r-init : goal.loop-r-init
-loop-r-init c = begins _ _ _ _ (search rules)
+pub loop-e-preserved : goal.loop-e-preserved
+loop-e-preserved c = goes_on c.loop-e.invariant no_task (omega arith) c.in_ok-e.ensures
 
-pub loop-r-preserved : goal.loop-r-preserved
-loop-r-preserved c = goes_on c.loop-r.invariant nil (omega arith) c.in-To.ensures.0 c.in-To.ensures.1
+pub returns-in_err-e : goal.returns-in_err-e
+returns-in_err-e c = rw c.from_residual.ensures (stops c.loop-e.invariant no_task (omega arith) c.in_err-e.ensures)
 
-pub tasks-preserved : goal.tasks-preserved
-tasks-preserved c =
-    let rs = rw c.registers_of-olds.ensures.0 at (ends c.loop-r.invariant c.loop-r-test.false) in
-    goes_on c.tasks.invariant no_task (omega arith) (entry_good _ _ _ c.in-Kept.ensures.0 rs.0) (entry_new _ _ _ _ _ rs.1 c.in-Kept.ensures.1)
-
-pub returns-in_default-v : goal.returns-in_default-v
-returns-in_default-v c =
-    let rs = rw c.registers_of-olds.ensures.0 at (stops c.loop-r.invariant nil (omega arith) c.in_default-v.ensures) in
-    (stops c.tasks.invariant no_task (omega arith) (entry_lost _ _ _ c.in-Kept.ensures.0 rs), tt)
+pub returns : goal.returns
+returns c =
+    let e = ends c.loop-e.invariant (omega arith) in
+    (e.0, rw e.1 (whole_row _ _ _))

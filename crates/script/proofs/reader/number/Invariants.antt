@@ -1,16 +1,11 @@
 -- What is left of the line is read as the loop reads it.
-use Rattle.std.proofs.Common.{◌-◌, ◌≡◌, ◌≤◌, length, drop, ◌<◌}
-use Rattle.script.specs.Parts.{num_of}
+use Rattle.std.proofs.Common.{◌≡◌, ◌≤◌, drop}
+use Rattle.script.specs.Line.{fields, field_numbers}
 use Rattle.script.proofs.Scan.{more}
 use Rattle.script.proofs.reader.number.Given as goal
 
 abbrev pub invariant-loop-i : goal.invariant-loop-i
 invariant-loop-i l = record {
-  begun : l.from < l.i;
-  inside : l.i ≤ length l.line;
-  fits : l.v ≤ 4294967295;
-  so_far : num_of l.from (drop l.from l.line) ≡ more l.i l.v (drop l.i l.line);
+  fits : l.value ≤ 4294967295;
+  so_far : field_numbers (fields l.rest) ≡ more l.value (fields (drop l.i l.rest));
 }
-
-abbrev pub decreases-loop-i : goal.decreases-loop-i
-decreases-loop-i l = l.n - l.i

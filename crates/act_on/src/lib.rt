@@ -10,7 +10,8 @@ use new::Act;
 use table::{Limits, Place, Refusal, Table, Task};
 
 // Collecting: each item is one step, each place of a task an arm with what it holds. (The place is an enum, as 01 lays it down. An
-// action is given the few numbers that it uses: a struct of marks, words and longest object would be made for one call.)
+// action is given the few numbers that it uses: a struct of marks, words and longest object would be made for one call. The table
+// is only read: see `new_off` for why no type holds it and the words.)
 #[tactic(auto, unfolding(crate::specs::On::on_act))]
 pub fn on_act(t: &Table, words: &mut [u32], e: &Task) -> Act
     requires { Sound t.now.limits t.now.upper t.now.marks (length words.old) }

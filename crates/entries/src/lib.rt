@@ -57,7 +57,8 @@ pub fn answered(t: Table, a: Result<Answer, Refusal>) -> Outcome
     }
 }
 
-// One task at another place of its instruction.
+// One task at another place of its instruction. (Here and below i is the task of a step, whose callers hand the table on: see
+// crates/settle for why no type holds both.)
 #[tactic(auto, unfolding(machine::specs::Entries::with_place, machine::specs::Entries::with_task))]
 pub fn with_place(t: Table, i: usize, place: Place) -> Table
     requires { i < 8 }

@@ -49,7 +49,8 @@ fn empty_space(upper: bool, h: u32) -> Marks
     }
 }
 
-// What the three passes leave of the space to come.
+// What the three passes leave of the space to come. (The table is only read, and the words are lent on: no type holds both, as in
+// crates/new.)
 #[tactic(auto, unfolding(machine::specs::Flip::passes_of))]
 fn passes(t: &Table, words: &mut [u32]) -> Result<Marks, Refusal>
     requires { Spaced t.now.limits (length words.old) }

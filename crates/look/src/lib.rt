@@ -123,7 +123,7 @@ pub fn place_step(m: Marks, end: u32, words: &mut [u32], s: u32, p: Primary, the
     Deed::Goes(next, go_on(then, r))
 }
 
-// The slot of the object takes a value; false where there is no such slot.
+// The slot of the object takes a value; false where there is no such slot: no value goes with it.
 #[tactic(auto, unfolding(crate::specs::Slots::written_of))]
 pub fn write_slot(words: &mut [u32], s: u32, at: Slot, v: Operand<Primary>) -> bool
     ensures { (written_in result words.new ≡ written_of words.old s at (operand_word v)) × When result (at.index < s) }

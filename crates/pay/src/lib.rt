@@ -39,7 +39,7 @@ pub fn take(m: Marks, words: &mut [u32], s: u32, n: u32) -> Deed
     }
 }
 
-// Pay: the primary slot is read.
+// Pay: the primary slot is read. (The choice of a kind stands in `slot_at` of crates/load too, which says why.)
 #[tactic(auto, unfolding(machine::specs::Pay::read_of))]
 pub fn read(m: Marks, words: &[u32], s: u32, n: u32, job: Slot) -> Deed
     ensures { acted result words.now ≡ read_of m words.now s n job.object job.index }

@@ -1,7 +1,8 @@
 // Begin of Fill with a plain word, and what that with a pointer shares: no word is written, and the task's first place is recorded.
 #![tactic(auto)]
 
-ghost use Rattle.std.specs.Prelude.{◌≡◌, ◌≤◌, ◌<◌};
+ghost use Rattle.std.specs.Prelude.{◌≡◌, ◌≤◌, ◌<◌, OnErr, IfOk};
+ghost use Rattle.table.specs.declared.Answer.TheVariants.{Accepted};
 ghost use Rattle.machine.specs.Entries.{ends};
 ghost use Rattle.machine.specs.Begin.{begin_fill_of, fill_pending};
 ghost use Rattle.machine.specs.Call.{Call};
@@ -48,7 +49,9 @@ pub fn recorded(
     v: Operand<Primary>,
 ) -> Result<Answer, Refusal>
     requires { (task < 8) × (t.old.limits.p ≤ 8) × (t.old.limits.h ≤ 8190) }
-    ensures { answered t.new result ≡ fill_pending t.old words.now task v pending }
+    ensures given { answered t.new result ≡ fill_pending t.old words.now task v pending }
+    ensures accepted { IfOk result (λ answer. answer ≡ Accepted) }
+    ensures unchanged { OnErr result (t.new ≡ t.old) }
 {
     fill_gate(words, t.limits.s, opening::held(t), pending, v)?;
     t.tasks[task as usize].place = Place::FillWrite(v);
@@ -57,7 +60,8 @@ pub fn recorded(
 
 #[tactic(auto, using(opening::proofs::Opens::by_opening, opening::proofs::Opens::no_register), unfolding(machine::specs::Begin::begin_fill_of, machine::specs::Begin::fill_from))]
 fn filled(t: &mut Table, words: &[u32], task: u32, word: u32) -> Result<Answer, Refusal>
-    ensures { answered t.new result ≡ begin_fill_of t.old words.now task word }
+    ensures given { answered t.new result ≡ begin_fill_of t.old words.now task word }
+    ensures unchanged { OnErr result (t.new ≡ t.old) }
 {
     let e = opening::turn(t, words.len(), task, 0, 0)?;
     recorded(t, words, task, e.pending, Operand::Plain(word))

@@ -1,7 +1,7 @@
 // Begin of Fill with a pointer: no word is written, and the task's first place is recorded.
 #![tactic(auto)]
 
-ghost use Rattle.std.specs.Prelude.{◌≡◌};
+ghost use Rattle.std.specs.Prelude.{◌≡◌, OnErr};
 ghost use Rattle.machine.specs.Entries.{ends};
 ghost use Rattle.machine.specs.Begin.{begin_fill_pointer_of};
 ghost use Rattle.machine.specs.Call.{Call};
@@ -12,7 +12,8 @@ use table::{Answer, Operand, Outcome, Refusal, Table};
 
 #[tactic(auto, using(opening::proofs::Opens::by_opening, opening::proofs::Opens::one_register), unfolding(machine::specs::Begin::begin_fill_pointer_of, machine::specs::Begin::fill_from))]
 fn filled(t: &mut Table, words: &[u32], task: u32, r: u32) -> Result<Answer, Refusal>
-    ensures { answered t.new result ≡ begin_fill_pointer_of t.old words.now task r }
+    ensures given { answered t.new result ≡ begin_fill_pointer_of t.old words.now task r }
+    ensures unchanged { OnErr result (t.new ≡ t.old) }
 {
     let e = opening::turn(t, words.len(), task, r, r)?;
     begin_fill::recorded(

@@ -1,7 +1,7 @@
 // Begin of New: no word is written, and the task's first place is recorded.
 #![tactic(auto)]
 
-ghost use Rattle.std.specs.Prelude.{◌≡◌};
+ghost use Rattle.std.specs.Prelude.{◌≡◌, OnErr};
 ghost use Rattle.machine.specs.Entries.{ends};
 ghost use Rattle.machine.specs.Begin.{begin_new_of};
 ghost use Rattle.machine.specs.Call.{Call};
@@ -13,7 +13,8 @@ use table::{Answer, Outcome, Place, Refusal, Table, Wanted};
 // A New asks for what can be, of a task that is idle and has no object pending.
 #[tactic(auto, unfolding(machine::specs::Begin::begin_new_of, machine::specs::Entries::with_place, machine::specs::Entries::with_task))]
 fn asked(t: &mut Table, words: &[u32], task: u32, w: Wanted) -> Result<Answer, Refusal>
-    ensures { answered t.new result ≡ begin_new_of t.old words.now task w.register w.len w.m }
+    ensures given { answered t.new result ≡ begin_new_of t.old words.now task w.register w.len w.m }
+    ensures unchanged { OnErr result (t.new ≡ t.old) }
 {
     gates::task_gate(t, words.len(), task)?;
     if !gates::new_ok(t.limits.s, w) {

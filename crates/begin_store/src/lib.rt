@@ -1,7 +1,8 @@
 // Begin of Store of a plain word, and what that of a pointer shares: no word is written, and the task's first place is recorded.
 #![tactic(auto)]
 
-ghost use Rattle.std.specs.Prelude.{◌≡◌, ◌+◌, ◌≤◌, ◌<◌, length, get_or, Some};
+ghost use Rattle.std.specs.Prelude.{◌≡◌, ◌+◌, ◌≤◌, ◌<◌, length, get_or, Some, OnErr, IfOk};
+ghost use Rattle.table.specs.declared.Answer.TheVariants.{Accepted};
 ghost use Rattle.machine.specs.Entries.{entry, ends};
 ghost use Rattle.machine.specs.Begin.{begin_store_of, store_place};
 ghost use Rattle.machine.specs.Call.{Call};
@@ -73,7 +74,9 @@ pub fn recorded(
     v: Operand<Primary>,
 ) -> Result<Answer, Refusal>
     requires { (task < 8) × (t.old.limits.p ≤ 8) × (t.old.limits.h ≤ 8190) }
-    ensures { answered t.new result ≡ recorded_of t.old words.now task at v }
+    ensures given { answered t.new result ≡ recorded_of t.old words.now task at v }
+    ensures accepted { IfOk result (λ answer. answer ≡ Accepted) }
+    ensures unchanged { OnErr result (t.new ≡ t.old) }
 {
     let held = opening::held(t);
     let taken = search::row_of(t).slot_taken(task, at);
@@ -92,7 +95,8 @@ fn stored(
     slot: u32,
     word: u32,
 ) -> Result<Answer, Refusal>
-    ensures { answered t.new result ≡ begin_store_of t.old words.now task object slot word }
+    ensures given { answered t.new result ≡ begin_store_of t.old words.now task object slot word }
+    ensures unchanged { OnErr result (t.new ≡ t.old) }
 {
     let e = opening::turn(t, words.len(), task, object, object)?;
     let at = Slot {

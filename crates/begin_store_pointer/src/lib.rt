@@ -1,7 +1,7 @@
 // Begin of Store of a pointer: no word is written, and the task's first place is recorded.
 #![tactic(auto)]
 
-ghost use Rattle.std.specs.Prelude.{◌≡◌};
+ghost use Rattle.std.specs.Prelude.{◌≡◌, OnErr};
 ghost use Rattle.machine.specs.Entries.{ends};
 ghost use Rattle.machine.specs.Begin.{begin_store_pointer_of};
 ghost use Rattle.machine.specs.Call.{Call};
@@ -19,7 +19,8 @@ fn stored(
     slot: u32,
     r: u32,
 ) -> Result<Answer, Refusal>
-    ensures { answered t.new result ≡ begin_store_pointer_of t.old words.now task object slot r }
+    ensures given { answered t.new result ≡ begin_store_pointer_of t.old words.now task object slot r }
+    ensures unchanged { OnErr result (t.new ≡ t.old) }
 {
     let e = opening::turn(t, words.len(), task, object, r)?;
     let at = Slot {

@@ -1,7 +1,7 @@
 // Clear, which makes a register nil; it completes at once.
 #![tactic(auto)]
 
-ghost use Rattle.std.specs.Prelude.{◌≡◌};
+ghost use Rattle.std.specs.Prelude.{◌≡◌, OnErr};
 ghost use Rattle.machine.specs.Complete.{clear_of};
 ghost use Rattle.machine.specs.Entries.{ends};
 ghost use Rattle.machine.specs.Call.{Call};
@@ -13,7 +13,8 @@ use table::{Answer, Outcome, Primary, Refusal, Table};
 // A register becomes nil.
 #[tactic(auto, using(opening::proofs::Opens::by_opening), unfolding(machine::specs::Complete::clear_of, machine::specs::Entries::with_register, machine::specs::Entries::with_task))]
 fn cleared(t: &mut Table, words: &[u32], task: u32, r: u32) -> Result<Answer, Refusal>
-    ensures { answered t.new result ≡ clear_of t.old words.now task r }
+    ensures given { answered t.new result ≡ clear_of t.old words.now task r }
+    ensures unchanged { OnErr result (t.new ≡ t.old) }
 {
     let mut e = opening::turn(t, words.len(), task, r, r)?;
     e.regs[r as usize] = Primary(0);

@@ -1,7 +1,7 @@
 // Load: a pointer slot goes to a register, a plain slot is answered.
 #![tactic(auto)]
 
-ghost use Rattle.std.specs.Prelude.{◌≡◌};
+ghost use Rattle.std.specs.Prelude.{◌≡◌, OnErr};
 ghost use Rattle.machine.specs.Complete.{load_of};
 ghost use Rattle.machine.specs.Entries.{ends};
 ghost use Rattle.machine.specs.Call.{Call};
@@ -42,7 +42,8 @@ fn loaded(
     from: u32,
     slot: u32,
 ) -> Result<Answer, Refusal>
-    ensures { answered t.new result ≡ load_of t.old words.now task to from slot }
+    ensures given { answered t.new result ≡ load_of t.old words.now task to from slot }
+    ensures unchanged { OnErr result (t.new ≡ t.old) }
 {
     let mut e = opening::turn(t, words.len(), task, to, from)?;
     match slot_at(words, t.limits.s, e.regs[from as usize], slot)? {

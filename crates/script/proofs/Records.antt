@@ -2,7 +2,7 @@
 use Prim.Native.Nat.{ℕ, zero, suc, ◌+◌, ◌≤◌, ◌<◌}
 use Prim.Native.String.{String}
 use native.Mathlib.Omega.{arith}
-use mathlib.Core.Path.{◌≡◌, refl, ap}
+use mathlib.Core.Path.{◌≡◌, refl, ap, sym}
 use mathlib.Core.List.{List, [], ◌∷◌, ◌++◌, append-nil}
 use mathlib.Core.Bool.{Bool}
 use lib.ListN.{length, get_or, take, set}
@@ -10,6 +10,8 @@ use native.Mathlib.Numerals.{add-one}
 use Rattle.std.specs.Prelude.{Option, Some, None}
 use Rattle.std.proofs.Common.{length-append}
 use Rattle.script.specs.Line.{fields, before, field_number, field_numbers, record_by, record_in}
+use Rattle.std.proofs.lemmas.Option.{same_Some, none-some}
+use Rattle.script.specs.Parts.{with_rest, front_number}
 use Rattle.script.proofs.Scan.{split}
 
 -- ---- the numbers of a record, one by one
@@ -76,9 +78,29 @@ befores_suc (a ∷ ns) (suc k) v m h = ap (before (Some a)) (befores_suc ns k v 
 pub befores_on : (ns : List ℕ) (k v : ℕ) (m : Option (List ℕ)) → k < length ns → befores (take (k + 1) (set ns k v)) m ≡ befores (take k ns) (before (Some v) m)
 befores_on ns k v m h = rw add-one (befores_suc ns k v m h)
 
+-- fields by the first of them
+pub front_read : (gs : List (List ℕ)) (v : ℕ) (fs : List (List ℕ)) → front_number gs ≡ Some (v, fs) → field_numbers gs ≡ before (Some v) (field_numbers fs)
+unfolding field_numbers
+front_read [] v fs e = absurd (none-some (v, fs) e)
+front_read (f ∷ gs) v fs e = go (field_number f) refl e
+  where
+    go : (m : Option ℕ) → field_number f ≡ m → with_rest m gs ≡ Some (v, fs) → field_numbers (f ∷ gs) ≡ before (Some v) (field_numbers fs)
+    go None q h = absurd (none-some (v, fs) h)
+    go (Some w) q h =
+        let p = same_Some (w, gs) (v, fs) h in
+        rw (q, ap (λ (x : ℕ × List (List ℕ)). x.0) p, ap (λ (x : ℕ × List (List ℕ)). x.1) p) refl
+
 -- what the fields say that are left
-pub stuck : (is : String → Bool) (ms : List ℕ) (m : Option (List ℕ)) → m ≡ None → record_in is (befores ms m) ≡ None
-stuck is ms m e = rw (e, befores_bad ms) refl
+stuck_at : (is : String → Bool) (ms : List ℕ) → record_in is (befores ms None) ≡ None
+stuck_at is ms = rw (befores_bad ms) refl
+
+pub stuck : (is : String → Bool) (ms s : List ℕ) → front_number (fields s) ≡ None → record_in is (befores ms (field_numbers (fields s))) ≡ None
+unfolding field_numbers
+stuck is ms s e = go (field_number (split s).0) refl (rw (split s).2 at e)
+  where
+    go : (m : Option ℕ) → field_number (split s).0 ≡ m → with_rest m (split s).1 ≡ None → record_in is (befores ms (field_numbers (fields s))) ≡ None
+    go None q h = rw ((split s).2, q, befores_bad ms) refl
+    go (Some v) q h = absurd (none-some (v, (split s).1) (sym h))
 
 pub ended : (is : String → Bool) (ms : List ℕ) → record_in is (befores ms (field_numbers [])) ≡ record_by is ms
 unfolding field_numbers
@@ -89,6 +111,6 @@ unfolding field_numbers
 crowded is ms s h = rw (split s).2 (go (field_number (split s).0) (field_numbers (split s).1))
   where
     go : (m : Option ℕ) (k : Option (List ℕ)) → record_in is (befores ms (before m k)) ≡ None
-    go None k = stuck is ms None refl
-    go (Some v) None = stuck is ms None refl
+    go None k = stuck_at is ms
+    go (Some v) None = stuck_at is ms
     go (Some v) (Some ns) = rw (befores_end ms (v ∷ ns)) (many is (ms ++ (v ∷ ns)) (omega (arith, length-append ms (v ∷ ns))))

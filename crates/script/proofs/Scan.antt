@@ -12,7 +12,8 @@ use lib.Dec.{ltb, eqb}
 use borrow.Author.Tests.{lt-ltb, le-ltb, eq-eqb, ne_eqb}
 use Rattle.std.specs.Prelude.{Option, Some, None}
 use Rattle.machine.specs.Basics.{pick}
-use Rattle.script.specs.Line.{fields, digit, digits_from, within, before, field_number, field_numbers}
+use Rattle.script.specs.Line.{fields, digit, digits_from, within, field_number}
+use Rattle.script.specs.Parts.{with_rest, front_number}
 
 -- a rest of a line, taken apart
 pub next : (l : List ℕ) (i : ℕ) → i < length l → drop i l ≡ get_or l i 0 ∷ drop (i + 1) l
@@ -66,28 +67,27 @@ big (b ∷ s) v h = go (ltb b 48) (ltb 57 b) refl refl (big s (10 * v + (b - 48)
 
 -- ---- the first field, from its first byte on
 
-bad_first : (s f : List ℕ) (fs : List (List ℕ)) → fields s ≡ f ∷ fs → field_number f ≡ None → field_numbers (fields s) ≡ None
-unfolding field_numbers
+bad_first : (s f : List ℕ) (fs : List (List ℕ)) → fields s ≡ f ∷ fs → field_number f ≡ None → front_number (fields s) ≡ None
 bad_first s f fs e n = rw (e, n) refl
 
-pub bad_empty : (s : List ℕ) → length s < 1 → field_numbers (fields s) ≡ None
-unfolding fields field_numbers field_number
+pub bad_empty : (s : List ℕ) → length s < 1 → front_number (fields s) ≡ None
+unfolding fields field_number
 bad_empty [] h = refl
 bad_empty (b ∷ s) h = absurd (omega arith)
 
-pub bad_low : (s : List ℕ) → 1 ≤ length s → get_or s 0 0 < 48 → field_numbers (fields s) ≡ None
-unfolding fields field_numbers field_number
+pub bad_low : (s : List ℕ) → 1 ≤ length s → get_or s 0 0 < 48 → front_number (fields s) ≡ None
+unfolding fields field_number
 bad_low [] h l = absurd (omega arith)
 bad_low (b ∷ s) h l = go (eqb b 9) refl
   where
     z : b ≡ 48 → ⊥
     z e = omega arith
 
-    go : (x : Bool) → eqb b 9 ≡ x → field_numbers (fields (b ∷ s)) ≡ None
+    go : (x : Bool) → eqb b 9 ≡ x → front_number (fields (b ∷ s)) ≡ None
     go true e = simp e
     go false e = simp (e, (split s).2, ne_eqb b 48 z, lt-ltb b 48 l)
 
-pub bad_high : (s : List ℕ) → 1 ≤ length s → 57 < get_or s 0 0 → field_numbers (fields s) ≡ None
+pub bad_high : (s : List ℕ) → 1 ≤ length s → 57 < get_or s 0 0 → front_number (fields s) ≡ None
 unfolding field_number
 bad_high [] h l = absurd (omega arith)
 bad_high (b ∷ s) h l =
@@ -97,7 +97,7 @@ bad_high (b ∷ s) h l =
     let r = split s in
     bad_first (b ∷ s) (b ∷ r.0) r.1 (onto b s r.0 r.1 n r.2) (simp (ne_eqb b 48 z, le-ltb b 48 k, lt-ltb 57 b l))
 
-pub bad_zero : (s : List ℕ) → 2 ≤ length s → get_or s 0 0 ≡ 48 → (get_or s 1 0 ≡ 9 → ⊥) → field_numbers (fields s) ≡ None
+pub bad_zero : (s : List ℕ) → 2 ≤ length s → get_or s 0 0 ≡ 48 → (get_or s 1 0 ≡ 9 → ⊥) → front_number (fields s) ≡ None
 unfolding field_number
 bad_zero [] h e n = absurd (omega arith)
 bad_zero (b ∷ []) h e n = absurd (omega arith)
@@ -106,27 +106,27 @@ bad_zero (b ∷ d ∷ s) h e n =
     let r = split s in
     bad_first (b ∷ d ∷ s) (b ∷ d ∷ r.0) r.1 (onto b (d ∷ s) (d ∷ r.0) r.1 m (onto d s r.0 r.1 n r.2)) (simp (eq-eqb b 48 e))
 
-pub zero_last : (s : List ℕ) → 1 ≤ length s → length s < 2 → get_or s 0 0 ≡ 48 → field_numbers (fields s) ≡ before (Some 0) (field_numbers [])
-unfolding fields field_numbers field_number
+pub zero_last : (s : List ℕ) → 1 ≤ length s → length s < 2 → get_or s 0 0 ≡ 48 → front_number (fields s) ≡ Some (0, [])
+unfolding fields field_number
 zero_last [] h k e = absurd (omega arith)
 zero_last (b ∷ []) h k e = rw e refl
 zero_last (b ∷ d ∷ s) h k e = absurd (omega arith)
 
-pub zero_tab : (s : List ℕ) → 2 ≤ length s → get_or s 0 0 ≡ 48 → get_or s 1 0 ≡ 9 → field_numbers (fields s) ≡ before (Some 0) (field_numbers (fields (take (length s - 2) (drop 2 s))))
-unfolding fields field_numbers field_number
+pub zero_tab : (s : List ℕ) → 2 ≤ length s → get_or s 0 0 ≡ 48 → get_or s 1 0 ≡ 9 → front_number (fields s) ≡ Some (0, fields (take (length s - 2) (drop 2 s)))
+unfolding fields field_number
 zero_tab [] h e k = absurd (omega arith)
 zero_tab (b ∷ []) h e k = absurd (omega arith)
 zero_tab (b ∷ d ∷ s) h e k = rw (e, k, rest_of 2 (b ∷ d ∷ s)) refl
 
 -- ---- the first field, after digits of the value v
 
--- the numbers of some fields, of which the first goes on with the digits of v
-abbrev pub more : ℕ → List (List ℕ) → Option (List ℕ)
+-- the number of the first of some fields, where its digits go on behind those of v, and the fields behind it
+abbrev pub more : ℕ → List (List ℕ) → Option (ℕ × List (List ℕ))
 more v [] = None
-more v (f ∷ fs) = before (within (digits_from v f)) (field_numbers fs)
+more v (f ∷ fs) = with_rest (within (digits_from v f)) fs
 
-pub begins : (s : List ℕ) → 1 ≤ length s → 49 ≤ get_or s 0 0 → get_or s 0 0 ≤ 57 → field_numbers (fields s) ≡ more 0 (fields (drop 0 s))
-unfolding field_numbers field_number digits_from
+pub begins : (s : List ℕ) → 1 ≤ length s → 49 ≤ get_or s 0 0 → get_or s 0 0 ≤ 57 → front_number (fields s) ≡ more 0 (fields (drop 0 s))
+unfolding field_number digits_from
 begins [] h l u = absurd (omega arith)
 begins (b ∷ s) h l u =
     let n : b ≡ 9 → ⊥ = λ e. omega arith in
@@ -146,19 +146,19 @@ more_byte b s v n = rw (onto b s (split s).0 (split s).1 n (split s).2, (split s
     fs : List (List ℕ)
     fs = (split s).1
 
-    go : (x : Bool) → digit b ≡ x → before (within (digits_from v (b ∷ f))) (field_numbers fs) ≡ pick (digit b) (before (within (digits_from (10 * v + (b - 48)) f)) (field_numbers fs)) None
+    go : (x : Bool) → digit b ≡ x → with_rest (within (digits_from v (b ∷ f))) fs ≡ pick (digit b) (with_rest (within (digits_from (10 * v + (b - 48)) f)) fs) None
     go true e = simp e
     go false e = simp e
 
 more_big : (s : List ℕ) (v : ℕ) → 4294967295 < v → more v (fields s) ≡ None
 more_big s v h = rw ((split s).2, big (split s).0 v h) refl
 
-module _ (s : List ℕ) (i v : ℕ) (r : Option (List ℕ)) (so : r ≡ more v (fields (drop i s))) where
-  pub ends : length s ≤ i → v ≤ 4294967295 → r ≡ before (Some v) (field_numbers [])
+module _ (s : List ℕ) (i v : ℕ) (r : Option (ℕ × List (List ℕ))) (so : r ≡ more v (fields (drop i s))) where
+  pub ends : length s ≤ i → v ≤ 4294967295 → r ≡ Some (v, [])
   unfolding fields digits_from
   ends h l = so ∙ rw (drop_of_length-le s h) (simp (le-ltb 4294967295 v l))
 
-  pub ends_tab : i < length s → get_or s i 0 ≡ 9 → v ≤ 4294967295 → r ≡ before (Some v) (field_numbers (fields (take (length s - (i + 1)) (drop (i + 1) s))))
+  pub ends_tab : i < length s → get_or s i 0 ≡ 9 → v ≤ 4294967295 → r ≡ Some (v, fields (take (length s - (i + 1)) (drop (i + 1) s)))
   unfolding fields digits_from
   ends_tab h e l = so ∙ rw (next s i h, e, rest_of (i + 1) s) (simp (le-ltb 4294967295 v l))
 

@@ -1,7 +1,7 @@
 // The parts of the reader: a number, and the record that a name and its numbers make.
 ghost use Rattle.std.specs.Prelude.{◌≡◌, ◌∷◌, MatchOption, Some, None};
-ghost use Rattle.script.specs.Line.{fields, field_numbers, before, name_is, record_by};
-ghost use Rattle.script.specs.Parts.{left};
+ghost use Rattle.script.specs.Line.{fields, name_is, record_by};
+ghost use Rattle.script.specs.Parts.{left, front_number};
 
 use super::Said;
 
@@ -41,7 +41,7 @@ const DEFAULT_RATE: u32 = 1;
 // the digits: cut by `split` first, a line takes over half as long again.
 #[tactic(auto, using(crate::proofs::Scan::zero_last, crate::proofs::Scan::bad_empty, crate::proofs::Scan::bad_low, crate::proofs::Scan::bad_high, crate::proofs::Scan::bad_zero, crate::proofs::Scan::begins, crate::proofs::Scan::ends, crate::proofs::Scan::low, crate::proofs::Scan::high, crate::proofs::Scan::goes_on, crate::proofs::Scan::too_large))]
 pub fn number(rest: &[u8]) -> Option<(u32, Option<&[u8]>)>
-    ensures { MatchOption result (field_numbers (fields rest.now) ≡ None) (λ p. field_numbers (fields rest.now) ≡ before (Some p.0) (field_numbers (left p.1))) }
+    ensures { MatchOption result (front_number (fields rest.now) ≡ None) (λ p. front_number (fields rest.now) ≡ Some (p.0, left p.1)) }
 {
     match rest {
         [b'0'] => return Some((0, None)),

@@ -1,5 +1,5 @@
 -- The searches over the entries of the P tasks, and what is asked of all of them: at the first p entries they are machine's
--- seek_of, some, slot_taken, grey_of and held_of.
+-- seek_of, some, slot_taken, grey_of and held_of (proofs/Among.antt).
 use Rattle.std.specs.Prelude.{ℕ, ◌≡◌, ◌<◌, ◌^◌, List, Bool, true, false, ltb, Option}
 use Rattle.std.specs.Fn.{Shared}
 use denote.Ref.{Bor}

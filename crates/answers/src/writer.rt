@@ -33,7 +33,8 @@ fn put_number(n: u32, out: &mut [u8], at: usize) -> usize
     put_text(itoa::Buffer::new().format(n).as_bytes(), out, at)
 }
 
-// Puts a word with its tab, a number and a newline.
+// Puts a word with its tab, a number and a newline. (Written out where it is called, with a word of known bytes.)
+#[inline(always)]
 #[tactic(auto, using(crate::proofs::Put::wrote_next, crate::proofs::Put::wrote_length, crate::proofs::Put::decimal_ten))]
 pub fn put_with(word: &[u8], n: u32, out: &mut [u8], at: usize) -> usize
     requires { at + (length word.now + 11) ≤ length out.old }

@@ -58,9 +58,13 @@ impl Run<'_> {
             blocks::flush(output, &self.out[..self.used])?;
             return Ok(false);
         }
-        let left = blocks::to_front(buf, n - left, n);
+        // A line that outgrew the buffer is not kept.
         self.skip = self.skip || buf.len() <= left;
-        self.have = if self.skip { 0 } else { left };
+        self.have = if self.skip {
+            0
+        } else {
+            blocks::to_front(buf, n - left, n)
+        };
         Ok(true)
     }
 }

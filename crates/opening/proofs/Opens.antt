@@ -1,5 +1,5 @@
 -- What a call gives by its opening.
-use Rattle.std.specs.Prelude.{ℕ, ◌≡◌, ◌<◌, ◌≤◌, List, Bool, true, false, length, ltb, Result, Ok, Err}
+use Rattle.std.specs.Prelude.{ℕ, ◌≡◌, List, Bool, true, false, length, ltb, Result, Ok, Err}
 use Rattle.std.proofs.Common.{refl}
 use Rattle.table.specs.declared.Table.{Table}
 use Rattle.table.specs.declared.Task.{Task}

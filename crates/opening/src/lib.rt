@@ -2,15 +2,20 @@
 #![tactic(auto)]
 
 ghost use Rattle.std.specs.Prelude.{◌≡◌, ◌≤◌, ltb};
+ghost use Rattle.machine.specs.Bounds.{Paired};
+ghost use Rattle.machine.specs.Gate.{pair_gate_of};
 ghost use Rattle.machine.specs.Begin.{held_at, is_pointer, same_test};
 ghost use Rattle.opening.specs.Turn.{turn_of, Turned};
 
 use table::{Operand, Primary, Refusal, Table, Task};
 
 // The entry of a task that may call with two registers or roots: the gate lets it through, and it is idle.
+// (Written out in each call: called, it has the table and the entry go through memory.)
+#[inline(always)]
 pub fn turn(t: &Table, n: usize, task: u32, a: u32, b: u32) -> Result<Task, Refusal>
     ensures given { result ≡ turn_of t.now n task a b }
     ensures shown { Turned result t.now task a b }
+    ensures paired { Paired (pair_gate_of t.now.limits t.now.life t.now.upper t.now.marks n task a b) t.now.limits t.now.upper t.now.marks n task a b }
 {
     gates::pair_gate(t, n, task, a, b)?;
     let e = t.tasks[task as usize];

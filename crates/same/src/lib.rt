@@ -21,9 +21,13 @@ fn compared(t: &Table, words: &[u32], task: u32, a: u32, b: u32) -> Result<Answe
     Ok(Answer::Value((p == q) as u32))
 }
 
+// (Written out in the caller, and through `answered`, a table is copied twice more for each call.)
+#[inline(never)]
 pub fn same(t: Table, words: &[u32], task: u32, a: u32, b: u32) -> Outcome
     ensures { Meets (Call.Same task a b) t words.now (ends result words.now) }
 {
-    let answer = compared(&t, words, task, a, b);
-    entries::answered(t, answer)
+    match compared(&t, words, task, a, b) {
+        Ok(answer) => Outcome { table: t, answer },
+        Err(x) => entries::refused(t, x),
+    }
 }

@@ -4,14 +4,16 @@ use Prim.Native.String.{String}
 use native.Mathlib.Omega.{arith}
 use mathlib.Core.Path.{◌≡◌, refl, ap, sym}
 use mathlib.Core.List.{List, [], ◌∷◌, ◌++◌, append-nil}
-use mathlib.Core.Bool.{Bool}
+use mathlib.Core.Bool.{Bool, true, false}
 use lib.ListN.{length, get_or, take, set}
 use native.Mathlib.Numerals.{add-one}
 use Rattle.std.specs.Prelude.{Option, Some, None}
 use Rattle.std.proofs.Common.{length-append}
-use Rattle.script.specs.Line.{fields, before, field_number, field_numbers, record_by, record_in}
+use Rattle.std.specs.Str.{bytes_eq}
+use Rattle.std.proofs.lemmas.Slice.Eq.{bytes_eq-Decides}
+use Rattle.script.specs.Line.{fields, before, field_number, field_numbers, ascii, name_is, record_by, record_in, said_in, line_of}
 use Rattle.std.proofs.lemmas.Option.{same_Some, none-some}
-use Rattle.script.specs.Parts.{with_rest, front_number}
+use Rattle.script.specs.Parts.{with_rest, front_number, TooLong}
 use Rattle.script.proofs.Scan.{split}
 
 -- ---- the numbers of a record, one by one
@@ -55,6 +57,38 @@ many is (a ∷ b ∷ []) h = absurd (omega arith)
 many is (a ∷ b ∷ c ∷ []) h = absurd (omega arith)
 many is (a ∷ b ∷ c ∷ d ∷ []) h = absurd (omega arith)
 many is (a ∷ b ∷ c ∷ d ∷ e ∷ ns) h = refl
+
+-- ---- a name that is too long
+
+differs : (f w : List ℕ) → length w < length f → bytes_eq f w ≡ false
+differs f w h = go (bytes_eq f w) refl
+  where
+    go : (b : Bool) → bytes_eq f w ≡ b → bytes_eq f w ≡ false
+    go false e = e
+    go true e = absurd (omega (arith, ap length ((bytes_eq-Decides f w).0 e), h))
+
+unnamed : (f ns : List ℕ) → 6 < length f → record_by (name_is f) ns ≡ None
+unfolding record_by
+unnamed f [] h = simp (differs f (ascii "report") (omega arith))
+unnamed f (a ∷ []) h = simp (differs f (ascii "step") (omega arith))
+unnamed f (a ∷ b ∷ []) h = simp (differs f (ascii "fill") (omega arith), differs f (ascii "fillp") (omega arith), differs f (ascii "clear") (omega arith))
+unnamed f (a ∷ b ∷ c ∷ []) h =
+    simp (differs f (ascii "setup") (omega arith), differs f (ascii "move") (omega arith), differs f (ascii "same") (omega arith), differs f (ascii "put") (omega arith), differs f (ascii "get") (omega arith))
+unnamed f (a ∷ b ∷ c ∷ d ∷ []) h =
+    simp (differs f (ascii "setup") (omega arith), differs f (ascii "new") (omega arith), differs f (ascii "load") (omega arith), differs f (ascii "store") (omega arith), differs f (ascii "storep") (omega arith))
+unnamed f (a ∷ b ∷ c ∷ d ∷ e ∷ ns) h = refl
+
+pub nameless : (s : List ℕ) → TooLong (fields s) → line_of s ≡ None
+unfolding line_of
+nameless s h = go (fields s) refl h
+  where
+    go : (fs : List (List ℕ)) → fields s ≡ fs → TooLong fs → said_in fs ≡ None
+    go [] e l = absurd l
+    go (f ∷ fs) e l = said (field_numbers fs)
+      where
+        said : (m : Option (List ℕ)) → record_in (name_is f) m ≡ None
+        said None = refl
+        said (Some ns) = unnamed f ns l
 
 -- ---- numbers before those of some fields
 

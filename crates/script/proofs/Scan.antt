@@ -2,18 +2,19 @@
 use Prim.Native.Nat.{ℕ, zero, suc, ◌+◌, ◌-◌, ◌*◌, ◌≤◌, ◌<◌}
 use native.Mathlib.Omega.{arith}
 use native.Mathlib.Numerals.{add-one}
-use mathlib.Core.Path.{◌≡◌, refl, ◌∙◌}
+use mathlib.Core.Path.{◌≡◌, refl, sym, ◌∙◌}
 use mathlib.Core.List.{List, [], ◌∷◌}
 use mathlib.Core.Bool.{Bool, true, false}
 use lib.ListN.{length, get_or, take, drop, drop_of_length-le}
-use Rattle.std.proofs.Common.{length-drop}
+use Rattle.std.proofs.Common.{length-drop, length-take-le}
+use Rattle.std.proofs.lemmas.List.{get_or-take}
 use lib.Seq.{drop-cons, take-length}
 use lib.Dec.{ltb, eqb}
 use borrow.Author.Tests.{lt-ltb, le-ltb, eq-eqb, ne_eqb}
 use Rattle.std.specs.Prelude.{Option, Some, None}
 use Rattle.machine.specs.Basics.{pick}
 use Rattle.script.specs.Line.{fields, digit, digits_from, within, field_number}
-use Rattle.script.specs.Parts.{with_rest, front_number}
+use Rattle.script.specs.Parts.{with_rest, front_number, TooLong}
 
 -- a rest of a line, taken apart
 pub next : (l : List ℕ) (i : ℕ) → i < length l → drop i l ≡ get_or l i 0 ∷ drop (i + 1) l
@@ -51,6 +52,32 @@ cut_suc (b ∷ s) (suc i) h e n = onto b s (take i s) (fields (drop (suc i) s)) 
 
 pub cut_at : (s : List ℕ) (i : ℕ) → i < length s → get_or s i 0 ≡ 9 → ((k : ℕ) → k < i → get_or s k 0 ≡ 9 → ⊥) → fields s ≡ take i s ∷ fields (take (length s - (i + 1)) (drop (i + 1) s))
 cut_at s i h e n = rw (rest_of (i + 1) s, add-one) (cut_suc s i h e n)
+
+-- the first field of a line whose first n bytes are no tab is no shorter
+pub front_length : (n : ℕ) (s : List ℕ) → n ≤ length s → ((k : ℕ) → k < n → get_or s k 0 ≡ 9 → ⊥) → (f : List ℕ) × (fs : List (List ℕ)) × (fields s ≡ f ∷ fs) × (n ≤ length f)
+front_length zero s h t = let r = split s in (r.0, r.1, r.2, omega arith)
+front_length (suc n) [] h t = absurd (omega arith)
+front_length (suc n) (b ∷ s) h t =
+    let r = front_length n s (omega arith) (λ k l. t (suc k) (omega arith)) in
+    (b ∷ r.0, r.1, onto b s r.0 r.1 (t 0 (omega arith)) r.2, omega (arith, r.3))
+
+-- ---- the same by the first bytes of a line, at most n
+
+pub cut_within : (s : List ℕ) (n i : ℕ) → n ≤ length s → i < length (take n s) → get_or (take n s) i 0 ≡ 9 → ((k : ℕ) → k < i → get_or (take n s) k 0 ≡ 9 → ⊥) → fields s ≡ take i s ∷ fields (take (length s - (i + 1)) (drop (i + 1) s))
+cut_within s n i l h e m =
+    let j : i < n = omega (arith, length-take-le n s l) in
+    cut_at s i (omega arith) (sym (get_or-take n s i 0 j) ∙ e) (λ k f g. m k f (get_or-take n s k 0 (omega arith) ∙ g))
+
+within_none : (s : List ℕ) (n : ℕ) → n ≤ length s → ((k : ℕ) → k < length (take n s) → get_or (take n s) k 0 ≡ 9 → ⊥) → (k : ℕ) → k < n → get_or s k 0 ≡ 9 → ⊥
+within_none s n l m k h e = m k (omega (arith, length-take-le n s l)) (get_or-take n s k 0 h ∙ e)
+
+pub whole_within : (s : List ℕ) (n : ℕ) → n ≡ length s → ((k : ℕ) → k < length (take n s) → get_or (take n s) k 0 ≡ 9 → ⊥) → fields s ≡ s ∷ []
+whole_within s n l m = whole s (λ k h. within_none s n (omega arith) m k (omega arith))
+
+pub long_within : (s : List ℕ) (n : ℕ) → n ≤ length s → 6 < n → ((k : ℕ) → k < length (take n s) → get_or (take n s) k 0 ≡ 9 → ⊥) → TooLong (fields s)
+long_within s n l h m =
+    let r = front_length n s l (within_none s n l m) in
+    rw r.2 (omega (arith, r.3))
 
 -- ---- the digits of a number
 

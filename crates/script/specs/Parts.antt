@@ -1,5 +1,5 @@
 -- What the reader's parts answer.
-use Rattle.std.specs.Prelude.{ℕ, List, [], ◌∷◌, Option, Some, None}
+use Rattle.std.specs.Prelude.{ℕ, ◌<◌, List, [], ◌∷◌, Option, Some, None, length}
 use denote.Ref.{Bor}
 use Rattle.script.specs.Line.{fields, field_number}
 
@@ -16,3 +16,8 @@ with_rest (Some v) fs = Some (v, fs)
 abbrev pub front_number : List (List ℕ) → Option (ℕ × List (List ℕ))
 front_number [] = None
 front_number (f ∷ fs) = with_rest (field_number f) fs
+
+-- the first of some fields is longer than every name
+abbrev pub TooLong : List (List ℕ) → Type 0
+TooLong [] = ⊥
+TooLong (f ∷ fs) = 6 < length f

@@ -43,11 +43,11 @@ pub enum Said {
 }
 
 // What a line says, if it can be read; the line is without its newline.
-#[tactic(auto, using(crate::proofs::Records::befores_on, crate::proofs::Records::stuck, crate::proofs::Records::ended, crate::proofs::Records::crowded))]
+#[tactic(auto, using(crate::proofs::Records::nameless, crate::proofs::Records::befores_on, crate::proofs::Records::stuck, crate::proofs::Records::ended, crate::proofs::Records::crowded))]
 pub fn read_line(line: &[u8]) -> Option<Said>
     ensures { result ≡ line_of line.now }
 {
-    let (name, mut rest) = reader::cut(line);
+    let (name, mut rest) = reader::cut(line)?;
     let mut numbers = [0; MOST_NUMBERS];
     // Counted by hand: written through `get_mut`, or through the `next` of an `iter_mut`, a proof knows no more what the array holds;
     // and no `for` fits, since the fields are read one behind the other.

@@ -1,7 +1,7 @@
 // The parts of the reader: a number, and the record that a name and its numbers make.
-ghost use Rattle.std.specs.Prelude.{◌≡◌, ◌∷◌, MatchOption, Some, None};
+ghost use Rattle.std.specs.Prelude.{◌≡◌, ◌≢◌, ℕ, ◌<◌, ◌∷◌, length, slice_index, MatchOption, Some, None, IfSome, IfNone};
 ghost use Rattle.script.specs.Line.{fields, name_is, record_by};
-ghost use Rattle.script.specs.Parts.{left, front_number};
+ghost use Rattle.script.specs.Parts.{left, front_number, TooLong};
 
 use super::Said;
 
@@ -34,6 +34,9 @@ const STORE: &[u8] = b"store";
 
 const STOREP: &[u8] = b"storep";
 
+// No name is longer.
+const LONGEST_NAME: usize = 6;
+
 // The rate of a set-up that names none.
 const DEFAULT_RATE: u32 = 1;
 
@@ -63,13 +66,26 @@ pub fn number(rest: &[u8]) -> Option<(u32, Option<&[u8]>)>
     Some((value, None))
 }
 
-// The field at the front of a line, and what follows its tab.
-pub fn cut(line: &[u8]) -> (&[u8], Option<&[u8]>)
-    ensures { fields line.now ≡ result.0.now ∷ left result.1 }
+// Where the first tab of some bytes stands.
+fn first_tab(bytes: &[u8]) -> Option<usize>
+    ensures found { IfSome result (λ i. (i < length bytes.now) × (slice_index bytes.now i ≡ 9)) }
+    ensures before { IfSome result (λ i. (k : ℕ) → k < i → slice_index bytes.now k ≢ 9) }
+    ensures none { IfNone result ((k : ℕ) → k < length bytes.now → slice_index bytes.now k ≢ 9) }
 {
-    match line.iter().position(|b| *b == b'\t') {
-        Some(i) => (&line[..i], Some(&line[i + 1..])),
-        None => (line, None),
+    bytes.iter().position(|&b| b == b'\t')
+}
+
+// The field at the front of a line, and what follows its tab. One longer than every name is no name, and is not looked
+// through: such a line costs no more than another.
+#[tactic(auto, using(crate::proofs::Scan::whole_within))]
+pub fn cut(line: &[u8]) -> Option<(&[u8], Option<&[u8]>)>
+    ensures { MatchOption result (TooLong (fields line.now)) (λ p. fields line.now ≡ p.0.now ∷ left p.1) }
+{
+    let end = line.len().min(LONGEST_NAME + 1);
+    match first_tab(&line[..end]) {
+        Some(i) => Some((&line[..i], Some(&line[i + 1..]))),
+        None if line.len() <= LONGEST_NAME => Some((line, None)),
+        None => None,
     }
 }
 

@@ -7,12 +7,12 @@ use Rattle.script.proofs.read_line.Goals as goal
 
 pub loop-rest-init : goal.loop-rest-init
 unfolding line_of
-loop-rest-init c = record { room = omega arith; size = omega arith; so_far = rw c.cut.ensures }
+loop-rest-init c = record { room = omega arith; size = omega arith; so_far = rw c.in_ok-name.ensures }
 
 pub loop-rest-preserved : goal.loop-rest-preserved
 loop-rest-preserved c =
     let l = c.loop-rest in
-    let is = name_is c.cut.result.0.now in
+    let is = name_is c.in_ok-name.name.now in
     record {
       room = omega arith;
       size = simp length-set (omega arith);

@@ -1,19 +1,10 @@
--- The first tab is found by its position.
-use Rattle.std.proofs.Common.{◌≡◌, rules, tests, arith}
-use Rattle.std.proofs.lemmas.Iterator.{IsFirst-from_position, YieldsList-from_slice}
-use Rattle.script.proofs.Scan.{whole, cut_at}
+-- The first tab of the line is that of its first bytes; where they have none, the line is short or its first field long.
+use Rattle.std.proofs.Common.{arith}
+use Rattle.script.proofs.Scan.{cut_within, long_within}
 use Rattle.script.proofs.reader.cut.Goals as goal
 
 pub returns-in-Some : goal.returns-in-Some
-returns-in-Some c =
-    let s = c.args.line.now in
-    let m = IsFirst-from_position _ _ _ (λ b. b ≡ 9) (λ b. b ≡ 9 → ⊥) c.position.ensures.ran (YieldsList-from_slice s cc) (λ x q k. search (rules, tests)) (λ x q k. search (rules, tests)) in
-    let first = rw c.in-Some.is at m in
-    cut_at s c.in-Some.i first.0 (first.1 0) (λ k l. first.2 k 0 (omega arith) l)
+returns-in-Some c = cut_within c.args.line.now c.min-end.result c.in-Some.i (omega arith) c.in-Some.ensures.found.0 c.in-Some.ensures.found.1 c.in-Some.ensures.before
 
-pub returns-in-None : goal.returns-in-None
-returns-in-None c =
-    let s = c.args.line.now in
-    let m = IsFirst-from_position _ _ _ (λ b. b ≡ 9) (λ b. b ≡ 9 → ⊥) c.position.ensures.ran (YieldsList-from_slice s cc) (λ x q k. search (rules, tests)) (λ x q k. search (rules, tests)) in
-    let none = rw c.in-None.is at m in
-    whole s (λ k l. none k 0 (omega arith) l)
+pub returns-in-None-2 : goal.returns-in-None-2
+returns-in-None-2 c = long_within c.args.line.now c.min-end.result (omega arith) (omega arith) c.in-None.ensures.none

@@ -13,7 +13,7 @@ use Rattle.std.specs.Str.{bytes_eq}
 use Rattle.std.proofs.lemmas.Slice.Eq.{bytes_eq-Decides}
 use Rattle.script.specs.Line.{fields, before, field_number, field_numbers, ascii, name_is, record_by, record_in, said_in, line_of}
 use Rattle.std.proofs.lemmas.Option.{same_Some, none-some}
-use Rattle.script.specs.Parts.{with_rest, front_number, TooLong}
+use Rattle.script.specs.Parts.{with_rest, front_number, LongName}
 use Rattle.script.proofs.Scan.{split}
 
 -- ---- the numbers of a record, one by one
@@ -78,11 +78,11 @@ unnamed f (a ∷ b ∷ c ∷ d ∷ []) h =
     simp (differs f (ascii "setup") (omega arith), differs f (ascii "new") (omega arith), differs f (ascii "load") (omega arith), differs f (ascii "store") (omega arith), differs f (ascii "storep") (omega arith))
 unnamed f (a ∷ b ∷ c ∷ d ∷ e ∷ ns) h = refl
 
-pub nameless : (s : List ℕ) → TooLong (fields s) → line_of s ≡ None
+pub nameless : (s : List ℕ) → LongName (fields s) → line_of s ≡ None
 unfolding line_of
 nameless s h = go (fields s) refl h
   where
-    go : (fs : List (List ℕ)) → fields s ≡ fs → TooLong fs → said_in fs ≡ None
+    go : (fs : List (List ℕ)) → fields s ≡ fs → LongName fs → said_in fs ≡ None
     go [] e l = absurd l
     go (f ∷ fs) e l = said (field_numbers fs)
       where

@@ -14,7 +14,7 @@ use borrow.Author.Tests.{lt-ltb, le-ltb, eq-eqb, ne_eqb}
 use Rattle.std.specs.Prelude.{Option, Some, None}
 use Rattle.machine.specs.Basics.{pick}
 use Rattle.script.specs.Line.{fields, digit, digits_from, within, field_number}
-use Rattle.script.specs.Parts.{with_rest, front_number, TooLong}
+use Rattle.script.specs.Parts.{with_rest, front_number, longest_name, LongName}
 
 -- a rest of a line, taken apart
 pub next : (l : List ℕ) (i : ℕ) → i < length l → drop i l ≡ get_or l i 0 ∷ drop (i + 1) l
@@ -63,10 +63,12 @@ front_length (suc n) (b ∷ s) h t =
 
 -- ---- the same by the first bytes of a line, at most n
 
-pub cut_within : (s : List ℕ) (n i : ℕ) → n ≤ length s → i < length (take n s) → get_or (take n s) i 0 ≡ 9 → ((k : ℕ) → k < i → get_or (take n s) k 0 ≡ 9 → ⊥) → fields s ≡ take i s ∷ fields (take (length s - (i + 1)) (drop (i + 1) s))
-cut_within s n i l h e m =
-    let j : i < n = omega (arith, length-take-le n s l) in
-    cut_at s i (omega arith) (sym (get_or-take n s i 0 j) ∙ e) (λ k f g. m k f (get_or-take n s k 0 (omega arith) ∙ g))
+pub cut_within : (s : List ℕ) (n i : ℕ) → n ≤ length s → n ≤ 7 → i < length (take n s) → get_or (take n s) i 0 ≡ 9 → ((k : ℕ) → k < i → get_or (take n s) k 0 ≡ 9 → ⊥) → (fields s ≡ take i s ∷ fields (take (length s - (i + 1)) (drop (i + 1) s))) × (length (take i s) ≤ longest_name)
+cut_within s n i l u h e m =
+    let j : i < n = omega (arith, length-take-le n s l) in (
+      cut_at s i (omega arith) (sym (get_or-take n s i 0 j) ∙ e) (λ k f g. m k f (get_or-take n s k 0 (omega arith) ∙ g)),
+      omega (arith, length-take-le i s (omega arith)),
+    )
 
 within_none : (s : List ℕ) (n : ℕ) → n ≤ length s → ((k : ℕ) → k < length (take n s) → get_or (take n s) k 0 ≡ 9 → ⊥) → (k : ℕ) → k < n → get_or s k 0 ≡ 9 → ⊥
 within_none s n l m k h e = m k (omega (arith, length-take-le n s l)) (get_or-take n s k 0 h ∙ e)
@@ -74,7 +76,7 @@ within_none s n l m k h e = m k (omega (arith, length-take-le n s l)) (get_or-ta
 pub whole_within : (s : List ℕ) (n : ℕ) → n ≡ length s → ((k : ℕ) → k < length (take n s) → get_or (take n s) k 0 ≡ 9 → ⊥) → fields s ≡ s ∷ []
 whole_within s n l m = whole s (λ k h. within_none s n (omega arith) m k (omega arith))
 
-pub long_within : (s : List ℕ) (n : ℕ) → n ≤ length s → 6 < n → ((k : ℕ) → k < length (take n s) → get_or (take n s) k 0 ≡ 9 → ⊥) → TooLong (fields s)
+pub long_within : (s : List ℕ) (n : ℕ) → n ≤ length s → 6 < n → ((k : ℕ) → k < length (take n s) → get_or (take n s) k 0 ≡ 9 → ⊥) → LongName (fields s)
 long_within s n l h m =
     let r = front_length n s l (within_none s n l m) in
     rw r.2 (omega (arith, r.3))

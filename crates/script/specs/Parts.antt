@@ -17,7 +17,11 @@ abbrev pub front_number : List (List ℕ) → Option (ℕ × List (List ℕ))
 front_number [] = None
 front_number (f ∷ fs) = with_rest (field_number f) fs
 
+-- no name is longer
+abbrev pub longest_name : ℕ
+longest_name = 6
+
 -- the first of some fields is longer than every name
-abbrev pub TooLong : List (List ℕ) → Type 0
-TooLong [] = ⊥
-TooLong (f ∷ fs) = 6 < length f
+abbrev pub LongName : List (List ℕ) → Type 0
+LongName [] = ⊥
+LongName (f ∷ fs) = longest_name < length f

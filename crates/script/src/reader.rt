@@ -1,7 +1,7 @@
 // The parts of the reader: a number, and the record that a name and its numbers make.
-ghost use Rattle.std.specs.Prelude.{◌≡◌, ◌≢◌, ℕ, ◌<◌, ◌∷◌, length, slice_index, MatchOption, Some, None, IfSome, IfNone};
+ghost use Rattle.std.specs.Prelude.{◌≡◌, ◌≢◌, ℕ, ◌≤◌, ◌<◌, ◌∷◌, length, slice_index, MatchOption, Some, None, IfSome, IfNone};
 ghost use Rattle.script.specs.Line.{fields, name_is, record_by};
-ghost use Rattle.script.specs.Parts.{left, front_number, TooLong};
+ghost use Rattle.script.specs.Parts.{left, front_number, longest_name, LongName};
 
 use super::Said;
 
@@ -79,7 +79,7 @@ fn first_tab(bytes: &[u8]) -> Option<usize>
 // through: such a line costs no more than another.
 #[tactic(auto, using(crate::proofs::Scan::whole_within))]
 pub fn cut(line: &[u8]) -> Option<(&[u8], Option<&[u8]>)>
-    ensures { MatchOption result (TooLong (fields line.now)) (λ p. fields line.now ≡ p.0.now ∷ left p.1) }
+    ensures { MatchOption result (LongName (fields line.now)) (λ p. (fields line.now ≡ p.0.now ∷ left p.1) × (length p.0.now ≤ longest_name)) }
 {
     let end = line.len().min(LONGEST_NAME + 1);
     match first_tab(&line[..end]) {

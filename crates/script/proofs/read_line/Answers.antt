@@ -7,7 +7,7 @@ use Rattle.script.proofs.read_line.Goals as goal
 
 pub loop-rest-init : goal.loop-rest-init
 unfolding line_of
-loop-rest-init c = record { room = omega arith; size = omega arith; so_far = rw c.in_ok-name.ensures }
+loop-rest-init c = record { room = omega arith; size = omega arith; so_far = rw c.in_ok-name.ensures.0 }
 
 pub loop-rest-preserved : goal.loop-rest-preserved
 loop-rest-preserved c =
